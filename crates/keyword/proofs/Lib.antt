@@ -1,0 +1,4 @@
+pub mod Position
+pub mod Numerals
+pub mod Parts
+pub mod Slots
