@@ -30,7 +30,11 @@ shared-slice-read-if3 : tie.Need-shared-slice-read-if3 Inv-loop μ-loop
 shared-slice-read-if3 c = search needs
 
 returns-2 : tie.Need-returns-2 Inv-loop μ-loop
-returns-2 c = sym (index-none _ (λ h. h .first (c .if3 .taken)))
+returns-2 c =
+    sym (index-none _ (λ h.
+    let d = h .digits 0 (h .some) in
+    let f = h .first in
+    omega (arith, c .if3 .taken)))
 
 loop-holds : tie.Need-loop-holds Inv-loop μ-loop
 loop-holds c = (omega arith, omega arith, refl, λ k h. absurd (omega arith))
