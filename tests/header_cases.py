@@ -6,8 +6,9 @@ From the repository's root:
     python3 tests/header_cases.py               crates/header_cases/data/cases.bin and crates/header_cases/stdout
     python3 tests/header_cases.py SEED FOLDER   FOLDER/data/cases.bin and FOLDER/stdout: random headers alone
 
-The reader below is written from docs/FORMAT.md, sections 2 to 6, and not from the Rattle code: it
-looks for each name from the start and matches each value by one expression.
+The reader below is not a copy of the Rattle code: it was written from the request's statement of a
+header, which docs/FORMAT.md, sections 2 to 6, puts in our words. It looks for each name from the
+start and matches each value by one expression.
 """
 import os
 import random

@@ -4,6 +4,7 @@ use mathlib.Core.Path.{_≡_, _∙_, ap}
 use mathlib.Core.Bool.{true}
 use mathlib.Core.List.{List}
 use Prim.Native.Nat.{ℕ}
+use native.Mathlib.Omega.{arith}
 use lib.ListN.{replicate}
 use Rattle.header.specs.declared.Header.{Header}
 use Rattle.header.specs.declared.HeaderCheck.the-variants.{BadLength}
@@ -29,7 +30,7 @@ refused-requires-2 : tie.Need-refused-requires-2
 refused-requires-2 c κs = search needs
 
 returns-2 : tie.Need-returns-2
-returns-2 c = refuse _ _ (c .refused2 .ensures) (length-over _ (c .before .if2 .taken))
+returns-2 c = refuse _ _ (c .refused2 .ensures) (length-over (c .before .before .before .before .args .header .now) (omega (arith, c .before .if2 .taken)))
 
 refused-requires-3 : tie.Need-refused-requires-3
 refused-requires-3 c κs = search needs
@@ -38,7 +39,7 @@ returns-3 : tie.Need-returns-3
 returns-3 c = refuse _ _ (c .refused3 .ensures) (length-part _ (c .before .if3 .taken))
 
 read-records-requires : tie.Need-read-records-requires
-read-records-requires c κs = length-good _ (c .before .before .if1 .left) (c .before .if2 .left) (c .if3 .left)
+read-records-requires c κs = length-good (c .before .before .before .before .args .header .now) (c .before .before .if1 .left) (omega (arith, c .before .if2 .left)) (c .if3 .left)
 
 returns-4 : tie.Need-returns-4
 returns-4 c = c .read-records .ensures
