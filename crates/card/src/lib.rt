@@ -3,7 +3,7 @@
 // Every call takes the whole header and a record's number, from 0. A number past the last whole
 // record reads as a blank record.
 mod field;
-mod text;
+pub mod text;
 
 ghost use mathlib.Core.Path.{_≡_};
 ghost use mathlib.Core.List.{[]};
