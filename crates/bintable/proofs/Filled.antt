@@ -1,0 +1,161 @@
+-- The columns of a header, one more at the end; their counts, bytes and names are bounded.
+-- Assumes nothing.
+use mathlib.Core.Path.{_≡_, refl, sym, _∙_, ap}
+use mathlib.Core.List.{List, [], _∷_, _++_, map, append-assoc}
+use Prim.Native.Nat.{ℕ, zero, suc, _+_, _-_, _*_, _^_, _≤_, _<_}
+use native.Mathlib.Nat.{add-zero, add-suc, suc-add}
+use native.Mathlib.Numerals.{add-one}
+use native.Mathlib.Omega.{arith}
+use lib.Dec.{eqb, leb}
+use lib.ListN.{length, drop, replicate, set}
+use lib.Seq.{set-at}
+use borrow.Author.Tests.{leb-true}
+use Rattle.card.specs.declared.Value.the-variants.{String}
+use Rattle.card.specs.Text.{front, digit}
+use Rattle.card.proofs.Cases.{by-test}
+use Rattle.card.proofs.Inside.{value-inside}
+use Rattle.keyword.specs.declared.Found.{Found}
+use Rattle.keyword.specs.declared.Found.the-variants.{At, Nothing}
+use Rattle.keyword.specs.Names.{range}
+use Rattle.header.specs.Checks.{Outcome, accepted, before}
+use Rattle.tform.specs.declared.TForm.{TForm}
+use Rattle.tform.specs.declared.parsing.Element.{Element}
+use Rattle.tform.specs.declared.parsing.Element.the-variants.{Is, Unknown}
+use Rattle.tform.specs.Form.{repeatCount, elementOf, firstElement, itemsForm, pForm, qForm, typed, formOf}
+use Rattle.tform.proofs.Widths.{field-bytes-bound}
+use Rattle.bintable.specs.declared.Column.{Column}
+use Rattle.bintable.specs.Layout.{noColumn, columnBytes, rowBytes}
+use Rattle.bintable.specs.Checks.{textIn, valueAt, tformOf, ttypeOf, firstRefusal}
+use Rattle.bintable.specs.Entry.{columnCheckFor, columnChecksTo, countIn, columnAt, columnsFrom}
+use Rattle.bintable.proofs.Checked.{before-accepted, before-assoc}
+
+-- ---- a form's count
+
+items-count : (n : ℕ) (e : Element) → countIn (itemsForm n e) ≤ n
+items-count n (Is e) = omega arith
+items-count n Unknown = omega arith
+
+p-count : (n : ℕ) (e : Element) → countIn (pForm n e) ≤ n
+p-count n (Is e) = omega arith
+p-count n Unknown = omega arith
+
+q-count : (n : ℕ) (e : Element) → countIn (qForm n e) ≤ n
+q-count n (Is e) = omega arith
+q-count n Unknown = omega arith
+
+typed-count : (n : ℕ) (s : List ℕ) → countIn (typed n s) ≤ n
+unfolding typed
+typed-count n [] = omega arith
+typed-count n (b ∷ bs) =
+    by-test (λ (f : TForm). countIn f ≤ n) (eqb b 80) (λ e. p-count n (firstElement bs))
+    (λ e. by-test (λ (f : TForm). countIn f ≤ n) (eqb b 81) (λ e. q-count n (firstElement bs)) (λ e. items-count n (elementOf b)))
+
+pub form-count : (s : List ℕ) → countIn (formOf s) ≤ 8388608
+unfolding formOf
+form-count s =
+    by-test (λ (f : TForm). countIn f ≤ 8388608) (leb (repeatCount s) 8388608)
+    (λ e. omega (arith, typed-count (repeatCount s) (drop (front digit s) s), leb-true (repeatCount s) 8388608 e)) (λ e. omega arith)
+
+-- ---- one column more
+
+pub range-snoc : (n k : ℕ) → range n (suc k) ≡ range n k ++ ((n + k) ∷ [])
+unfolding range
+range-snoc n zero = rw (add-zero n)
+range-snoc n (suc k) = ap (λ (l : List ℕ). n ∷ l) (range-snoc (suc n) k ∙ ap (λ (m : ℕ). range (suc n) k ++ (m ∷ [])) (suc-add n k ∙ sym (add-suc n k)))
+
+map-snoc : {B : Type 0} (f : ℕ → B) (xs : List ℕ) (x : ℕ) → map f (xs ++ (x ∷ [])) ≡ map f xs ++ (f x ∷ [])
+map-snoc f [] x = refl
+map-snoc f (y ∷ ys) x = ap (λ l. f y ∷ l) (map-snoc f ys x)
+
+first-snoc : (xs : List Outcome) (o : Outcome) → firstRefusal (xs ++ (o ∷ [])) ≡ before (firstRefusal xs) o
+unfolding firstRefusal
+first-snoc [] o = before-accepted o
+first-snoc (x ∷ xs) o = ap (before x) (first-snoc xs o) ∙ sym (before-assoc x (firstRefusal xs) o)
+
+-- the checks of one column more
+pub checks-none : (h : List ℕ) → accepted ≡ columnChecksTo h 0
+unfolding columnChecksTo range firstRefusal
+checks-none h = refl
+
+pub checks-next : (h : List ℕ) (k : ℕ) → before (columnChecksTo h k) (columnCheckFor h (k + 1)) ≡ columnChecksTo h (k + 1)
+unfolding columnChecksTo
+checks-next h k =
+    sym (ap firstRefusal (ap (λ (m : ℕ). map (columnCheckFor h) (range 1 m)) (add-one k) ∙ ap (map (columnCheckFor h)) (range-snoc 1 k) ∙ map-snoc (columnCheckFor h) (range 1 k) (1 + k))
+    ∙ first-snoc (map (columnCheckFor h) (range 1 k)) (columnCheckFor h (1 + k))
+    ∙ ap (λ (m : ℕ). before (firstRefusal (map (columnCheckFor h) (range 1 k))) (columnCheckFor h m)) (omega arith))
+
+row-snoc : (xs : List Column) (c : Column) → rowBytes (xs ++ (c ∷ [])) ≡ rowBytes xs + columnBytes c
+unfolding rowBytes
+row-snoc [] c = omega arith
+row-snoc (x ∷ xs) c = omega (arith, row-snoc xs c)
+
+module _ (h : List ℕ) where
+  -- column n at byte `at`
+  abbrev pub columnOf : ℕ → ℕ → Column
+  columnOf at n = columnAt h (tformOf h n) (ttypeOf h n) at
+
+  pub columns-length : (at n k : ℕ) → length (columnsFrom h at n k) ≡ k
+  unfolding columnsFrom
+  columns-length at n zero = refl
+  columns-length at n (suc k) = ap suc (columns-length (at + columnBytes (columnOf at n)) (suc n) k)
+
+  columns-snoc : (at n k : ℕ) → columnsFrom h at n (suc k) ≡ columnsFrom h at n k ++ (columnOf (at + rowBytes (columnsFrom h at n k)) (n + k) ∷ [])
+  unfolding columnsFrom rowBytes
+  columns-snoc at n zero = rw (add-zero at, add-zero n)
+  columns-snoc at n (suc k) =
+      let w = columnBytes (columnOf at n) in let xs = columnsFrom h (at + w) (suc n) k in
+      let e : at + w + rowBytes xs ≡ at + (w + rowBytes xs) = omega arith in
+      let m : suc n + k ≡ n + suc k = suc-add n k ∙ sym (add-suc n k) in
+      ap (λ (l : List Column). columnOf at n ∷ l) (columns-snoc (at + w) (suc n) k
+      ∙ ap (λ (b : ℕ). xs ++ (columnOf b (suc n + k) ∷ [])) e ∙ ap (λ (j : ℕ). xs ++ (columnOf (at + (w + rowBytes xs)) j ∷ [])) m)
+
+  -- the columns that are read so far
+  abbrev pub columnsTo : ℕ → List Column
+  columnsTo k = columnsFrom h 0 1 k
+
+  -- the next one
+  abbrev pub next : ℕ → Column
+  next k = columnOf (rowBytes (columnsTo k)) (k + 1)
+
+  to-snoc : (k : ℕ) → columnsTo (k + 1) ≡ columnsTo k ++ (next k ∷ [])
+  to-snoc k =
+      ap columnsTo (add-one k) ∙ columns-snoc 0 1 k ∙ ap (λ (b : ℕ). columnsTo k ++ (columnOf b (1 + k) ∷ [])) (omega arith)
+      ∙ ap (λ (j : ℕ). columnsTo k ++ (columnOf (rowBytes (columnsTo k)) j ∷ [])) (omega arith)
+
+  pub bytes-next : (k : ℕ) → rowBytes (columnsTo k) + columnBytes (next k) ≡ rowBytes (columnsTo (k + 1))
+  bytes-next k = sym (ap rowBytes (to-snoc k) ∙ row-snoc (columnsTo k) (next k))
+
+  -- the array with the columns so far
+  abbrev pub filled : ℕ → List Column
+  filled k = columnsTo k ++ replicate (64 - k) noColumn
+
+  pub filled-none : (c : Column) → c ≡ noColumn → replicate 64 c ≡ filled 0
+  unfolding columnsFrom
+  filled-none c e = rw e
+
+  pub bytes-none : _≡_ {A = ℕ} 0 (rowBytes (columnsTo 0))
+  unfolding columnsFrom rowBytes
+  bytes-none = refl
+
+  pub filled-next : (k : ℕ) → k < 64 → set (filled k) k (next k) ≡ filled (k + 1)
+  filled-next k l =
+      let e : 64 - k ≡ suc (64 - (k + 1)) = omega arith in
+      rw (e, to-snoc k)
+      (set-at (columnsTo k) noColumn (replicate (64 - (k + 1)) noColumn) (next k) k (columns-length 0 1 k)
+      ∙ sym (append-assoc (columnsTo k) (next k ∷ []) (replicate (64 - (k + 1)) noColumn)))
+
+  column-bound : (at n : ℕ) → columnBytes (columnOf at n) ≤ 134217744
+  column-bound at n = omega (arith, field-bytes-bound (columnOf at n .form) (columnOf at n .count), form-count (textIn h (valueAt h (tformOf h n))))
+
+  from-bound : (at n k : ℕ) → rowBytes (columnsFrom h at n k) ≤ k * 134217744
+  unfolding columnsFrom rowBytes
+  from-bound at n zero = omega arith
+  from-bound at n (suc k) = omega (arith, column-bound at n, from-bound (at + columnBytes (columnOf at n)) (suc n) k)
+
+  pub bytes-bound : (k : ℕ) → rowBytes (columnsTo k) ≤ k * 134217744
+  bytes-bound k = from-bound 0 1 k
+
+  -- a stretch of the header fits 32 bits
+  pub value-fits : (r : Found) → length h < 2 ^ 32 → (a n : ℕ) → valueAt h r ≡ String a n → (a < 2 ^ 32) × (n < 2 ^ 32)
+  value-fits (At k) l a n e = let i = value-inside a n h k e in (omega (arith, i), omega (arith, i))
+  value-fits Nothing l a n e = absurd (let z : _≡_ {A = ℕ} 0 1 = cc in omega arith)

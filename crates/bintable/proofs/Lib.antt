@@ -1,0 +1,12 @@
+pub mod Integers
+pub mod Checked
+pub mod Stretch
+pub mod Index
+pub mod Bounds
+pub mod Nine
+pub mod Filled
+pub mod Quotes
+pub mod Named
+pub mod Ok
+pub mod Entered
+pub mod Kept

@@ -1,0 +1,81 @@
+-- `columns_ok` meets its contract. The loop's invariant: the columns are in order just where those that are left are.
+-- Assumes nothing.
+use mathlib.Core.Path.{_≡_, refl, sym, _∙_, ap}
+use Prim.Native.Nat.{ℕ, _+_, _-_, _*_, _≤_, _<_}
+use native.Mathlib.Omega.{arith}
+use lib.ListN.{length, drop, getD, length-map, length-take}
+use Rattle.bintable.specs.Layout.{noColumn, columnsOk, columnsOf}
+use Rattle.bintable.proofs.Named.{column-at}
+use Rattle.bintable.proofs.Ok.{column-limit, ok-next, ok-count, ok-start, ok-end}
+use borrow.Author.Needs.{needs}
+use Rattle.bintable.proofs.columns.columns_ok.Statement.{statement}
+use Rattle.bintable.proofs.columns.columns_ok.Tie as tie
+
+abbrev Inv-loop : tie.InvT-loop
+Inv-loop layout at₀ i₀ at i = (i ≤ layout .tfields) × ((at ≤ i * 134217744) × (columnsOk (layout .naxis1) 0 (columnsOf layout) ≡ columnsOk (layout .naxis1) at (drop i (columnsOf layout))))
+
+abbrev μ-loop : tie.MeasureT-loop
+μ-loop layout at₀ i₀ at i = layout .tfields - i
+
+columns : (c : tie.Start Inv-loop μ-loop) → length (columnsOf (c .args .t1)) ≡ c .args .t1 .tfields
+columns c =
+    let e = simp length-map at (c .good .0 .1 .1 .1 .1 .1 .1 .1 .0 .1 .0 .1) in
+    length-take (c .args .t1 .tfields) (c .args .t1 .columns) ∙ omega (arith, e, c .pre)
+
+inside : (c : tie.In-loop Inv-loop μ-loop) → c .before .loop .i < length (columnsOf (c .before .before .args .t1))
+inside c = omega (arith, columns (c .before .before), c .loop-test .taken)
+
+-- the bytes of the column
+width : (c : tie.After-field-bytes Inv-loop μ-loop) → c .field-bytes .result ≤ 134217744
+width c = omega (arith, c .field-bytes .ensures, column-limit (getD (c .before .before .before .before .before .before .before .before .args .t1 .columns) (c .before .before .before .before .before .before .before .loop .i) noColumn) (c .before .before .before .if1 .left))
+
+loop-holds : tie.Need-loop-holds Inv-loop μ-loop
+loop-holds c = (omega arith, (omega arith, refl))
+
+mul-column : tie.Need-mul-column Inv-loop μ-loop
+mul-column c = search needs
+
+element-copy-out-column : tie.Need-element-copy-out-column Inv-loop μ-loop
+element-copy-out-column c = search needs
+
+returns : tie.Need-returns Inv-loop μ-loop
+returns c = sym (c .before .before .before .before .loop .inv .1 .1 ∙ ok-count _ _ (columnsOf (c .before .before .before .before .before .args .t1)) (c .before .before .before .before .loop .i) _ (inside (c .before .before .before)) (column-at (c .before .before .before .before .before .args .t1) (c .before .before .before .before .loop .i) (c .before .before .before .loop-test .taken)) (c .if1 .taken))
+
+returns-2 : tie.Need-returns-2 Inv-loop μ-loop
+returns-2 c = sym (c .before .before .before .before .before .before .loop .inv .1 .1 ∙ ok-start _ _ (columnsOf (c .before .before .before .before .before .before .before .args .t1)) (c .before .before .before .before .before .before .loop .i) _ (inside (c .before .before .before .before .before)) (column-at (c .before .before .before .before .before .before .before .args .t1) (c .before .before .before .before .before .before .loop .i) (c .before .before .before .before .before .loop-test .taken)) (c .if2 .taken))
+
+field-bytes-requires : tie.Need-field-bytes-requires Inv-loop μ-loop
+field-bytes-requires c κs = search needs
+
+add-at : tie.Need-add-at Inv-loop μ-loop
+add-at c = omega (arith, width c, c .before .before .before .before .before .before .before .loop .inv .1 .0, c .before .before .before .before .before .before .loop-test .taken, c .before .before .before .before .before .before .before .before .pre)
+
+add-i : tie.Need-add-i Inv-loop μ-loop
+add-i c = search needs
+
+loop-less : tie.Need-loop-less Inv-loop μ-loop
+loop-less c = search needs
+
+loop-again : tie.Need-loop-again Inv-loop μ-loop
+loop-again c = (omega arith, (omega (arith, width c, c .before .before .before .before .before .before .before .loop .inv .1 .0), c .before .before .before .before .before .before .before .loop .inv .1 .1 ∙ (ok-next _ _ (columnsOf (c .before .before .before .before .before .before .before .before .args .t1)) (c .before .before .before .before .before .before .before .loop .i) _ (inside (c .before .before .before .before .before .before)) (column-at (c .before .before .before .before .before .before .before .before .args .t1) (c .before .before .before .before .before .before .before .loop .i) (c .before .before .before .before .before .before .loop-test .taken)) (c .before .before .before .if1 .left) (c .before .if2 .left) ∙ ap (λ (w : ℕ). columnsOk (c .before .before .before .before .before .before .before .before .args .t1 .naxis1) (c .before .before .before .before .before .before .before .loop .at + w) (drop (c .before .before .before .before .before .before .before .loop .i + 1) (columnsOf (c .before .before .before .before .before .before .before .before .args .t1)))) (sym (c .field-bytes .ensures)))))
+
+returns-3 : tie.Need-returns-3 Inv-loop μ-loop
+returns-3 c = sym (c .before .loop .inv .1 .1 ∙ ok-end _ _ (columnsOf (c .before .before .args .t1)) (c .before .loop .i) (omega (arith, columns (c .before .before), c .loop-test .left)))
+
+pub columns-ok-spec : {M : Type 1} → statement M
+columns-ok-spec =
+    tie.close
+    (tie.spec
+    Inv-loop
+    μ-loop
+    loop-holds
+    mul-column
+    element-copy-out-column
+    returns
+    returns-2
+    field-bytes-requires
+    add-at
+    add-i
+    loop-less
+    loop-again
+    returns-3)

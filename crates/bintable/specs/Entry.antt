@@ -1,0 +1,173 @@
+-- The entry (FORMAT.md, sections 8 and 10; the standard, 7.3.1, 7.3.2 and 7.3.5): what a header and a data area come to, the layout or one refusal.
+-- Assumes nothing.
+use Prim.Native.Nat.{ℕ, zero, suc, _+_, _-_, _*_}
+use mathlib.Core.List.{List, [], _∷_, _++_, map}
+use mathlib.Core.Bool.{cond}
+use lib.ListN.{length, replicate}
+use lib.Dec.{eqb, leb}
+use Rattle.card.specs.declared.Value.{Value}
+use Rattle.card.specs.declared.Value.the-variants.{Integer, String, Invalid}
+use Rattle.card.specs.Text.{bytes, same}
+use Rattle.keyword.specs.declared.Found.{Found}
+use Rattle.keyword.specs.declared.Found.the-variants.{At, Nothing}
+use Rattle.keyword.specs.Names.{range}
+use Rattle.header.specs.Checks.{Outcome, before, checked}
+use Rattle.header.specs.Checks as O
+use Rattle.tform.specs.declared.VariableArrayTy.the-variants.{L}
+use Rattle.tform.specs.declared.TFormType.{TFormType}
+use Rattle.tform.specs.declared.TFormType.the-variants.{Items}
+use Rattle.tform.specs.declared.TForm.{TForm}
+use Rattle.tform.specs.declared.TForm.the-variants as T
+use Rattle.tform.specs.Form.{formOf}
+use Rattle.bintable.specs.declared.Name.{Name}
+use Rattle.bintable.specs.declared.Name.the-variants.{Missing, Stretch}
+use Rattle.bintable.specs.declared.Column.{Column}
+use Rattle.bintable.specs.declared.BinTable.{BinTable}
+use Rattle.bintable.specs.Layout.{noColumn, emptyLayout, columnBytes, rowBytes, columnsOf, dataSize}
+use Rattle.bintable.specs.Checks.{isInteger, isString, notNegative, sizeIn, within, textIn, valueAt, recordFor, sizeFor, tformOf, ttypeOf, check4, check5, check6, check7, check8, firstRefusal}
+
+-- ---- the nine names, each by 4, 5, 6 and 7
+
+-- XTENSION is the text BINTABLE
+unfoldable pub xtensionCheck : List ℕ → Found → Outcome
+xtensionCheck h r =
+    firstRefusal (check4 0 r ∷ check5 (isString (valueAt h r)) r ∷ check6 (same (textIn h (valueAt h r)) (bytes "BINTABLE")) r ∷ [])
+
+-- BITPIX, NAXIS and GCOUNT have one value only
+unfoldable pub fixedCheck : List ℕ → Found → ℕ → Outcome
+fixedCheck h r n = firstRefusal (check4 0 r ∷ check5 (isInteger (valueAt h r)) r ∷ check6 (within n n (valueAt h r)) r ∷ [])
+
+-- NAXIS1, NAXIS2 and PCOUNT are sizes with a limit
+unfoldable pub sizeCheck : List ℕ → Found → ℕ → Outcome
+sizeCheck h r limit =
+    firstRefusal (check4 0 r ∷ check5 (isInteger (valueAt h r)) r ∷ check6 (notNegative (valueAt h r)) r ∷ check7 limit (valueAt h r) r ∷ [])
+
+-- TFIELDS is at most 999 by the standard, and 64 here
+unfoldable pub tfieldsCheck : List ℕ → Found → Outcome
+tfieldsCheck h r =
+    firstRefusal (check4 0 r ∷ check5 (isInteger (valueAt h r)) r ∷ check6 (within 0 999 (valueAt h r)) r ∷ check7 64 (valueAt h r) r ∷ [])
+
+-- THEAP may be missing; else it lies from the main size to the main size and PCOUNT
+unfoldable pub theapCheck : List ℕ → Found → ℕ → ℕ → Outcome
+theapCheck h r main pcount = firstRefusal (check5 (isInteger (valueAt h r)) r ∷ check6 (within main (main + pcount) (valueAt h r)) r ∷ [])
+
+-- the main size
+abbrev pub mainOf : List ℕ → ℕ
+mainOf h = sizeFor h "NAXIS1" * sizeFor h "NAXIS2"
+
+-- the nine, in their order
+unfoldable pub kindChecks : List ℕ → List Outcome
+kindChecks h = xtensionCheck h (recordFor h "XTENSION") ∷ fixedCheck h (recordFor h "BITPIX") 8 ∷ fixedCheck h (recordFor h "NAXIS") 2 ∷ []
+
+unfoldable pub sizeChecks : List ℕ → List Outcome
+sizeChecks h =
+    sizeCheck h (recordFor h "NAXIS1") 1048576 ∷ sizeCheck h (recordFor h "NAXIS2") 16777216 ∷ sizeCheck h (recordFor h "PCOUNT") 2147483647 ∷ []
+
+unfoldable pub restChecks : List ℕ → List Outcome
+restChecks h =
+    fixedCheck h (recordFor h "GCOUNT") 1 ∷ tfieldsCheck h (recordFor h "TFIELDS")
+    ∷ theapCheck h (recordFor h "THEAP") (mainOf h) (sizeFor h "PCOUNT") ∷ []
+
+unfoldable pub nineChecks : List ℕ → Outcome
+nineChecks h = firstRefusal (kindChecks h ++ (sizeChecks h ++ restChecks h))
+
+-- ---- the columns
+
+-- the form that a record of TFORMn says
+abbrev pub formAt : List ℕ → Found → TForm
+formAt h r = formOf (textIn h (valueAt h r))
+
+-- column n with the records of TFORMn and TTYPEn: the first by 4, 5 and 8, then the other, which may be missing, by 5
+unfoldable pub columnCheck : List ℕ → ℕ → Found → Found → Outcome
+columnCheck h n r t =
+    firstRefusal (check4 n r ∷ check5 (isString (valueAt h r)) r ∷ check8 n (formAt h r) ∷ check5 (isString (valueAt h t)) t ∷ [])
+
+abbrev pub columnCheckFor : List ℕ → ℕ → Outcome
+columnCheckFor h n = columnCheck h n (tformOf h n) (ttypeOf h n)
+
+-- the columns from 1 to `many`
+unfoldable pub columnChecksTo : List ℕ → ℕ → Outcome
+columnChecksTo h many = firstRefusal (map (columnCheckFor h) (range 1 many))
+
+-- each column, from 1 to TFIELDS
+abbrev pub columnChecks : List ℕ → Outcome
+columnChecks h = columnChecksTo h (sizeFor h "TFIELDS")
+
+-- what a form says; a bad one says nothing
+abbrev pub typeIn : TForm → TFormType
+typeIn (T.Valid f k) = f
+typeIn T.Invalid = Items L
+
+abbrev pub countIn : TForm → ℕ
+countIn (T.Valid f k) = k
+countIn T.Invalid = 0
+
+-- the name that a value of TTYPEn is, as a stretch of the header; a missing one differs from an empty one
+abbrev pub nameIn : Value → Name
+nameIn (Integer z) = Missing
+nameIn (String a n) = Stretch a n
+nameIn Invalid = Missing
+
+-- a column with the records of TFORMn and TTYPEn, which starts at byte `at` of a row
+abbrev pub columnAt : List ℕ → Found → Found → ℕ → Column
+columnAt h r t at = record { form = typeIn (formAt h r); count = countIn (formAt h r); start = at; name = nameIn (valueAt h t) }
+
+-- as many columns as `many`, from column n, which starts at byte `at`: each other one starts where the one before ends
+unfoldable pub columnsFrom : List ℕ → ℕ → ℕ → ℕ → List Column
+columnsFrom h at n zero = []
+columnsFrom h at n (suc many) =
+    let c = columnAt h (tformOf h n) (ttypeOf h n) at in c ∷ columnsFrom h (at + columnBytes c) (suc n) many
+
+-- ---- the layout, which the header alone decides
+
+-- where the heap starts: at the main size if THEAP is missing
+abbrev pub theapIn : ℕ → Value → Found → ℕ
+theapIn main v (At k) = sizeIn v
+theapIn main v Nothing = main
+
+unfoldable pub layoutOf : List ℕ → BinTable
+layoutOf h =
+    record {
+      naxis1 = sizeFor h "NAXIS1";
+      naxis2 = sizeFor h "NAXIS2";
+      pcount = sizeFor h "PCOUNT";
+      theap = theapIn (mainOf h) (valueAt h (recordFor h "THEAP")) (recordFor h "THEAP");
+      tfields = sizeFor h "TFIELDS";
+      columns = columnsFrom h 0 1 (sizeFor h "TFIELDS") ++ replicate (64 - sizeFor h "TFIELDS") noColumn;
+    }
+
+-- 9: the bytes of the fields do not add up to NAXIS1
+unfoldable pub check9 : BinTable → Outcome
+check9 l = cond (eqb (rowBytes (columnsOf l)) (l .naxis1)) O.accepted (O.refused 9 0)
+
+-- 10: the data area is shorter than main size + PCOUNT
+unfoldable pub check10 : BinTable → List ℕ → Outcome
+check10 l a = cond (leb (dataSize l) (length a)) O.accepted (O.refused 10 0)
+
+-- ---- the entry
+
+-- the checks of the header: 1, 2 and 3, the nine names, the columns, 9
+unfoldable pub headerChecks : List ℕ → Outcome
+headerChecks h = firstRefusal (checked h ∷ nineChecks h ∷ columnChecks h ∷ check9 (layoutOf h) ∷ [])
+
+-- all checks, in their order: the data area is looked at last, and for its length alone
+unfoldable pub allChecks : List ℕ → List ℕ → Outcome
+allChecks h a = before (headerChecks h) (check10 (layoutOf h) a)
+
+-- a layout, or a refusal's number and place; a data area is accepted if there is a layout
+pub data Entry : Type 0 where
+  accepted : BinTable → Entry
+  refused : ℕ → ℕ → Entry
+
+-- what the checks come to, with the layout
+abbrev pub entryBy : Outcome → BinTable → Entry
+entryBy O.accepted l = accepted l
+entryBy (O.refused number place) l = refused number place
+
+abbrev pub entry : List ℕ → List ℕ → Entry
+entry h a = entryBy (allChecks h a) (layoutOf h)
+
+-- the layout that is returned: beside each refusal the empty one
+abbrev pub layoutIn : Entry → BinTable
+layoutIn (accepted l) = l
+layoutIn (refused number place) = emptyLayout

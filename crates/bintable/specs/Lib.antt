@@ -1,0 +1,5 @@
+pub mod Refusal
+pub mod Layout
+pub mod Checks
+pub mod Entry
+pub mod Names

@@ -1,0 +1,56 @@
+-- The names of columns (FORMAT.md, section 9; the standard, 7.3.2): the part of a header that is a column's name, and the column of a name.
+-- Assumes nothing.
+use Prim.Native.Nat.{ℕ, suc, _+_}
+use mathlib.Core.List.{List, [], _∷_}
+use mathlib.Core.Bool.{Bool, false, _&&_, cond}
+use lib.ListN.{length, getD, take, drop}
+use lib.Dec.{eqb, leb, ltb}
+use Rattle.card.specs.Text.{same}
+use Rattle.keyword.specs.declared.Found.{Found}
+use Rattle.keyword.specs.declared.Found.the-variants.{At, Nothing}
+use Rattle.bintable.specs.declared.Name.{Name}
+use Rattle.bintable.specs.declared.Name.the-variants.{Missing, Stretch}
+use Rattle.bintable.specs.declared.Column.{Column}
+use Rattle.bintable.specs.declared.BinTable.{BinTable}
+use Rattle.bintable.specs.Layout.{noColumn, columnsOf}
+
+-- whether a header has the stretch: it is long enough
+abbrev pub reaches : List ℕ → Name → Bool
+reaches h Missing = false
+reaches h (Stretch a n) = leb (a + n) (length h)
+
+-- the bytes of the stretch
+abbrev pub stretchOf : List ℕ → Name → List ℕ
+stretchOf h Missing = []
+stretchOf h (Stretch a n) = take n (drop a h)
+
+-- the part of the header that is the name; empty if the name is missing or the header is too short for it
+unfoldable pub partOf : List ℕ → Name → List ℕ
+partOf h s = cond (reaches h s) (stretchOf h s) []
+
+-- the name of a column; empty if there is no such column
+unfoldable pub nameOf : List ℕ → BinTable → ℕ → List ℕ
+nameOf h l c = cond (ltb c (l .tfields)) (partOf h (getD (l .columns) c noColumn .name)) []
+
+-- two quotes (39) next to each other, taken from the front, count as one
+unfoldable pub undoubled : List ℕ → List ℕ
+undoubled [] = []
+undoubled (b ∷ []) = b ∷ []
+undoubled (b ∷ c ∷ cs) = cond (eqb b 39 && eqb c 39) (b ∷ undoubled cs) (b ∷ undoubled (c ∷ cs))
+
+-- whether a name of the header is the one sought
+abbrev pub sameName : List ℕ → List ℕ → Bool
+sameName part sought = same (undoubled part) sought
+
+-- whether a column has the name sought
+abbrev pub hasName : List ℕ → List ℕ → Column → Bool
+hasName h sought c = reaches h (c .name) && sameName (stretchOf h (c .name)) sought
+
+-- the first of some columns that has the name, counted from c
+unfoldable pub firstNamed : List ℕ → List ℕ → ℕ → List Column → Found
+firstNamed h sought c [] = Nothing
+firstNamed h sought c (x ∷ xs) = cond (hasName h sought x) (At c) (firstNamed h sought (suc c) xs)
+
+-- the column of a name
+unfoldable pub findName : List ℕ → BinTable → List ℕ → Found
+findName h l sought = firstNamed h sought 0 (columnsOf l)

@@ -1,0 +1,47 @@
+-- The refusals (FORMAT.md, section 10): the number and the place of each cause.
+-- Assumes nothing.
+use Prim.Native.Nat.{ℕ}
+use Rattle.header.specs.Checks.{Outcome, accepted, refused}
+use Rattle.bintable.specs.declared.Refusal.{Refusal}
+use Rattle.bintable.specs.declared.Refusal.the-variants as R
+use Rattle.bintable.specs.declared.Check.{Check}
+use Rattle.bintable.specs.declared.Check.the-variants.{Passed, Refused}
+
+abbrev pub numberOf : Refusal → ℕ
+numberOf R.BadLength = 1
+numberOf R.MissingEnd = 2
+numberOf (R.RepeatedName k) = 3
+numberOf (R.MissingName n) = 4
+numberOf (R.UnreadableValue k) = 5
+numberOf (R.InvalidValue k) = 6
+numberOf (R.AboveLimit k) = 7
+numberOf (R.BadForm n) = 8
+numberOf R.RowSizeMismatch = 9
+numberOf R.ShortData = 10
+numberOf R.DoesNotBelong = 10
+numberOf R.NoColumn = 11
+numberOf (R.NoSuchRow r) = 12
+numberOf (R.ArrayOutsideHeap c) = 13
+numberOf (R.ShortList n) = 14
+
+abbrev pub placeOf : Refusal → ℕ
+placeOf R.BadLength = 0
+placeOf R.MissingEnd = 0
+placeOf (R.RepeatedName k) = k
+placeOf (R.MissingName n) = n
+placeOf (R.UnreadableValue k) = k
+placeOf (R.InvalidValue k) = k
+placeOf (R.AboveLimit k) = k
+placeOf (R.BadForm n) = n
+placeOf R.RowSizeMismatch = 0
+placeOf R.ShortData = 0
+placeOf R.DoesNotBelong = 0
+placeOf R.NoColumn = 0
+placeOf (R.NoSuchRow r) = r
+placeOf (R.ArrayOutsideHeap c) = c
+placeOf (R.ShortList n) = n
+
+-- what the code's answer says
+abbrev pub outcomeOf : Check → Outcome
+outcomeOf Passed = accepted
+outcomeOf (Refused r) = refused (numberOf r) (placeOf r)

@@ -1,0 +1,272 @@
+// The columns of a header, and the layout.
+ghost use mathlib.Core.Path.{_≡_};
+ghost use mathlib.Core.Bool.{cond};
+ghost use mathlib.Core.List.{_++_};
+ghost use Prim.Native.Nat.{ℕ, _-_, _≤_, _<_, _^_};
+ghost use lib.Dec.{eqb, leb};
+ghost use lib.ListN.{length, replicate};
+ghost use Rattle.card.specs.declared.Value.the-variants.{String};
+ghost use Rattle.header.specs.Checks.{recordOf, indexBy, accepted, refused, before, checked};
+ghost use Rattle.bintable.specs.declared.Check.the-variants.{Refused};
+ghost use Rattle.bintable.specs.Refusal.{outcomeOf};
+ghost use Rattle.bintable.specs.Layout.{noColumn, emptyLayout, rowBytes, columnsOk, columnsOf};
+ghost use Rattle.bintable.specs.Checks.{valueAt};
+ghost use Rattle.bintable.specs.Entry.{columnCheck, columnChecksTo, columnChecks, typeIn, countIn, nameIn, theapIn, columnAt, columnsFrom, nineChecks, layoutOf, check9, entryBy, entry, layoutIn};
+use super::BinTable;
+use super::Check;
+use super::Column;
+use super::Name;
+use super::Parsed;
+use super::Refusal;
+use super::checks;
+use super::text;
+use card::Value;
+use keyword::Found;
+use tform::TForm;
+use tform::TFormType;
+use tform::VariableArrayTy;
+
+pub struct ReadColumn {
+    pub check: Check,
+    pub column: Column,
+}
+
+// The columns up to TFIELDS and the bytes that they take in a row.
+pub struct ReadColumns {
+    pub check: Check,
+    pub columns: [Column; 64],
+    pub bytes: u64,
+}
+
+fn no_column() -> Column
+    ensures { λ r. ⌜ r ≡ noColumn ⌝ }
+{
+    Column {
+        form: TFormType::Items(VariableArrayTy::L),
+        count: 0,
+        start: 0,
+        name: Name::Missing,
+    }
+}
+
+// The layout beside a refusal.
+fn empty_layout() -> BinTable
+    ensures { λ r. ⌜ r ≡ emptyLayout ⌝ }
+{
+    let none = no_column();
+    let columns = [none; 64];
+    BinTable {
+        naxis1: 0,
+        naxis2: 0,
+        pcount: 0,
+        theap: 0,
+        tfields: 0,
+        columns,
+    }
+}
+
+// A refusal beside the empty layout.
+pub fn refused(refusal: Refusal) -> Parsed
+    ensures check { λ r. ⌜ r .check ≡ Refused refusal ⌝ }
+    ensures layout { λ r. ⌜ r .layout ≡ emptyLayout ⌝ }
+{
+    Parsed {
+        check: Check::Refused(refusal),
+        layout: empty_layout(),
+    }
+}
+
+fn type_in(form: TForm) -> TFormType
+    ensures { λ r. ⌜ r ≡ typeIn form ⌝ }
+{
+    match form {
+        TForm::Valid { form, count: _ } => form,
+        TForm::Invalid => TFormType::Items(VariableArrayTy::L),
+    }
+}
+
+fn count_in(form: TForm) -> u32
+    ensures { λ r. ⌜ r ≡ countIn form ⌝ }
+{
+    match form {
+        TForm::Valid { form: _, count } => count,
+        TForm::Invalid => 0,
+    }
+}
+
+// A header's stretches fit 32 bits.
+fn name_in(value: Value) -> Name
+    requires { ⌜ ((a n : ℕ) → value ≡ String a n → (a < 2 ^ 32) × (n < 2 ^ 32)) ⌝ }
+    ensures { λ r. ⌜ r ≡ nameIn value ⌝ }
+{
+    match value {
+        Value::Integer(_) => Name::Missing,
+        Value::String { start, len } => Name::Stretch {
+            start: start as u32,
+            len: len as u32,
+        },
+        Value::Invalid => Name::Missing,
+    }
+}
+
+// Column n with the records of its form and its name.
+fn read_column(header: &[u8], n: usize, form: Found, name: Found, start: u64) -> ReadColumn
+    requires { ⌜ length (now header) < 2 ^ 32 ⌝ }
+    ensures check { λ r. ⌜ outcomeOf (r .check) ≡ columnCheck (now (header .entry)) n form name ⌝ }
+    ensures column { λ r. ⌜ r .column ≡ columnAt (now (header .entry)) form name start ⌝ }
+{
+    let value = checks::value_of(header, form);
+    let tform = tform::parse_tform(text::text_of(header, value));
+    let ttype = checks::value_of(header, name);
+    let c4 = checks::check4(form, n);
+    let c5 = checks::check5(checks::is_string(value), form);
+    let c8 = checks::check8(n, tform);
+    let named = checks::check5(checks::is_string(ttype), name);
+    let check = checks::before(c4, checks::before(c5, checks::before(c8, named)));
+    let column = Column {
+        form: type_in(tform),
+        count: count_in(tform),
+        start,
+        name: name_in(ttype),
+    };
+    ReadColumn { check, column }
+}
+
+fn read_columns(header: &[u8], first: &[u16], tfields: usize) -> ReadColumns
+    requires { ⌜ (now first ≡ indexBy (recordOf (now header))) × ((length (now header) < 2 ^ 32) × (tfields ≤ 64)) ⌝ }
+    ensures check { λ r. ⌜ outcomeOf (r .check) ≡ columnChecksTo (now (header .entry)) tfields ⌝ }
+    ensures columns { λ r. ⌜ r .columns ≡ columnsFrom (now (header .entry)) 0 1 tfields ++ replicate (64 - tfields) noColumn ⌝ }
+    ensures bytes { λ r. ⌜ r .bytes ≡ rowBytes (columnsFrom (now (header .entry)) 0 1 tfields) ⌝ }
+{
+    let none = no_column();
+    let mut columns = [none; 64];
+    let mut check = Check::Passed;
+    let mut start: u64 = 0;
+    let mut i: usize = 0;
+    while i < tfields {
+        let form = header::record_of(first, keyword::TFORM1 + i);
+        let name = header::record_of(first, keyword::TTYPE1 + i);
+        let read = read_column(header, i + 1, form, name, start);
+        let column = read.column;
+        let column_check = read.check;
+        check = checks::before(check, column_check);
+        columns[i] = column;
+        let column_form = column.form;
+        start += tform::field_bytes(column_form, column.count);
+        i += 1;
+    }
+    ReadColumns {
+        check,
+        columns,
+        bytes: start,
+    }
+}
+
+// Where the heap starts: at the main size, if THEAP is missing.
+fn heap_start(main: u64, value: Value, found: Found) -> u64
+    ensures { λ r. ⌜ r ≡ theapIn main value found ⌝ }
+{
+    match found {
+        Found::At(_) => checks::size(value),
+        Found::Nothing => main,
+    }
+}
+
+fn check9(bytes: u64, naxis1: u64) -> Check
+    ensures { λ r. ⌜ outcomeOf r ≡ cond (eqb bytes naxis1) accepted (refused 9 0) ⌝ }
+{
+    if bytes == naxis1 {
+        return Check::Passed;
+    }
+    Check::Refused(Refusal::RowSizeMismatch)
+}
+
+fn check10(size: u64, len: usize) -> Check
+    ensures { λ r. ⌜ outcomeOf r ≡ cond (leb size len) accepted (refused 10 0) ⌝ }
+{
+    if size <= len as u64 {
+        return Check::Passed;
+    }
+    Check::Refused(Refusal::ShortData)
+}
+
+// The layout of a header whose nine names are in order, and the checks of its columns.
+fn read_layout(header: &[u8], first: &[u16]) -> Parsed
+    requires { ⌜ (now first ≡ indexBy (recordOf (now header))) × ((checked (now header) ≡ accepted) × (nineChecks (now header) ≡ accepted)) ⌝ }
+    ensures check { λ r. ⌜ outcomeOf (r .check) ≡ before (columnChecks (now (header .entry))) (check9 (layoutOf (now (header .entry)))) ⌝ }
+    ensures layout { λ r. ⌜ r .layout ≡ layoutOf (now (header .entry)) ⌝ }
+{
+    let naxis1 = checks::size_of(header, header::record_of(first, keyword::NAXIS1));
+    let naxis2 = checks::size_of(header, header::record_of(first, keyword::NAXIS2));
+    let pcount = checks::size_of(header, header::record_of(first, keyword::PCOUNT));
+    let tfields = checks::size_of(header, header::record_of(first, keyword::TFIELDS)) as usize;
+    let found = header::record_of(first, keyword::THEAP);
+    let theap = heap_start(naxis1 * naxis2, checks::value_of(header, found), found);
+    let read = read_columns(header, first, tfields);
+    let columns = read.columns;
+    let column_checks = read.check;
+    let layout = BinTable {
+        naxis1,
+        naxis2,
+        pcount,
+        theap,
+        tfields,
+        columns,
+    };
+    let row = check9(read.bytes, naxis1);
+    Parsed {
+        check: checks::before(column_checks, row),
+        layout,
+    }
+}
+
+// The layout, or a refusal beside the empty one.
+fn answered(check: Check, layout: BinTable) -> Parsed
+    ensures answer { λ r. ⌜ entryBy (outcomeOf (r .check)) (r .layout) ≡ entryBy (outcomeOf check) layout ⌝ }
+    ensures layout { λ r. ⌜ r .layout ≡ layoutIn (entryBy (outcomeOf check) layout) ⌝ }
+{
+    match check {
+        Check::Passed => Parsed {
+            check: Check::Passed,
+            layout,
+        },
+        Check::Refused(refusal) => refused(refusal),
+    }
+}
+
+// What `parse` answers on a header whose nine names are in order.
+pub fn parse_table(header: &[u8], first: &[u16], area: &[u8]) -> Parsed
+    requires { ⌜ (now first ≡ indexBy (recordOf (now header))) × ((checked (now header) ≡ accepted) × (nineChecks (now header) ≡ accepted)) ⌝ }
+    ensures answer { λ r. ⌜ entryBy (outcomeOf (r .check)) (r .layout) ≡ entry (now (header .entry)) (now (area .entry)) ⌝ }
+    ensures layout { λ r. ⌜ r .layout ≡ layoutIn (entry (now (header .entry)) (now (area .entry))) ⌝ }
+{
+    let read = read_layout(header, first);
+    let layout = read.layout;
+    let of_header = read.check;
+    let size = layout.naxis1 * layout.naxis2 + layout.pcount;
+    let long = check10(size, area.len());
+    let check = checks::before(of_header, long);
+    answered(check, layout)
+}
+
+// The columns of a layout that has at most 64 of them.
+pub fn columns_ok(layout: BinTable) -> bool
+    requires { ⌜ layout .tfields ≤ 64 ⌝ }
+    ensures { λ r. ⌜ r ≡ columnsOk (layout .naxis1) 0 (columnsOf layout) ⌝ }
+{
+    let mut at: u64 = 0;
+    let mut i: usize = 0;
+    while i < layout.tfields {
+        let column = layout.columns[i];
+        if 8388608 < column.count {
+            return false;
+        }
+        if column.start != at {
+            return false;
+        }
+        let form = column.form;
+        at += tform::field_bytes(form, column.count);
+        i += 1;
+    }
+    at == layout.naxis1
+}

@@ -1,0 +1,124 @@
+// The nine names that are not numbered by column, each by checks 4, 5, 6 and 7. `first` is the header's index of first records.
+ghost use mathlib.Core.Path.{_≡_};
+ghost use Prim.Native.Nat.{_+_, _<_, _^_};
+ghost use Rattle.header.specs.Checks.{recordOf, indexBy, accepted};
+ghost use Rattle.bintable.specs.Refusal.{outcomeOf};
+ghost use Rattle.bintable.specs.Checks.{firstRefusal};
+ghost use Rattle.bintable.specs.Entry.{xtensionCheck, fixedCheck, sizeCheck, tfieldsCheck, theapCheck, kindChecks, sizeChecks, restChecks, nineChecks};
+use super::Check;
+use super::checks;
+use super::text;
+use keyword::Found;
+
+fn check_xtension(header: &[u8], found: Found) -> Check
+    ensures { λ r. ⌜ outcomeOf r ≡ xtensionCheck (now (header .entry)) found ⌝ }
+{
+    let value = checks::value_of(header, found);
+    let right = card::same_bytes(text::text_of(header, value), b"BINTABLE");
+    let c4 = checks::check4(found, 0);
+    let c5 = checks::check5(checks::is_string(value), found);
+    let c6 = checks::check6(right, found);
+    checks::before(c4, checks::before(c5, c6))
+}
+
+// A name that has one value only.
+fn check_fixed(header: &[u8], found: Found, n: u64) -> Check
+    ensures { λ r. ⌜ outcomeOf r ≡ fixedCheck (now (header .entry)) found n ⌝ }
+{
+    let value = checks::value_of(header, found);
+    let c4 = checks::check4(found, 0);
+    let c5 = checks::check5(checks::is_integer(value), found);
+    let c6 = checks::check6(checks::is_within(value, n, n), found);
+    checks::before(c4, checks::before(c5, c6))
+}
+
+// A size and its limit.
+fn check_size(header: &[u8], found: Found, limit: u64) -> Check
+    ensures { λ r. ⌜ outcomeOf r ≡ sizeCheck (now (header .entry)) found limit ⌝ }
+{
+    let value = checks::value_of(header, found);
+    let c4 = checks::check4(found, 0);
+    let c5 = checks::check5(checks::is_integer(value), found);
+    let c6 = checks::check6(checks::not_negative(value), found);
+    let c7 = checks::check7(limit, value, found);
+    checks::before(c4, checks::before(c5, checks::before(c6, c7)))
+}
+
+fn check_tfields(header: &[u8], found: Found) -> Check
+    ensures { λ r. ⌜ outcomeOf r ≡ tfieldsCheck (now (header .entry)) found ⌝ }
+{
+    let value = checks::value_of(header, found);
+    let c4 = checks::check4(found, 0);
+    let c5 = checks::check5(checks::is_integer(value), found);
+    let c6 = checks::check6(checks::is_within(value, 0, 999), found);
+    let c7 = checks::check7(64, value, found);
+    checks::before(c4, checks::before(c5, checks::before(c6, c7)))
+}
+
+fn check_theap(header: &[u8], found: Found, main: u64, pcount: u64) -> Check
+    requires { ⌜ main + pcount < 2 ^ 64 ⌝ }
+    ensures { λ r. ⌜ outcomeOf r ≡ theapCheck (now (header .entry)) found main pcount ⌝ }
+{
+    let value = checks::value_of(header, found);
+    let c5 = checks::check5(checks::is_integer(value), found);
+    let c6 = checks::check6(checks::is_within(value, main, main + pcount), found);
+    checks::before(c5, c6)
+}
+
+// XTENSION, BITPIX and NAXIS.
+fn check_kind(header: &[u8], first: &[u16]) -> Check
+    requires { ⌜ now first ≡ indexBy (recordOf (now header)) ⌝ }
+    ensures { λ r. ⌜ outcomeOf r ≡ firstRefusal (kindChecks (now (header .entry))) ⌝ }
+{
+    let xtension = check_xtension(header, header::record_of(first, keyword::XTENSION));
+    let bitpix = check_fixed(header, header::record_of(first, keyword::BITPIX), 8);
+    let naxis = check_fixed(header, header::record_of(first, keyword::NAXIS), 2);
+    checks::before(xtension, checks::before(bitpix, naxis))
+}
+
+// NAXIS1, NAXIS2 and PCOUNT.
+fn check_sizes(header: &[u8], first: &[u16]) -> Check
+    requires { ⌜ now first ≡ indexBy (recordOf (now header)) ⌝ }
+    ensures { λ r. ⌜ outcomeOf r ≡ firstRefusal (sizeChecks (now (header .entry))) ⌝ }
+{
+    let naxis1 = check_size(header, header::record_of(first, keyword::NAXIS1), 1048576);
+    let naxis2 = check_size(header, header::record_of(first, keyword::NAXIS2), 16777216);
+    let pcount = check_size(
+        header,
+        header::record_of(first, keyword::PCOUNT),
+        2147483647,
+    );
+    checks::before(naxis1, checks::before(naxis2, pcount))
+}
+
+// GCOUNT, TFIELDS and THEAP, whose range needs sizes within their limits.
+fn check_rest(header: &[u8], first: &[u16]) -> Check
+    requires { ⌜ (now first ≡ indexBy (recordOf (now header))) × (firstRefusal (sizeChecks (now header)) ≡ accepted) ⌝ }
+    ensures { λ r. ⌜ outcomeOf r ≡ firstRefusal (restChecks (now (header .entry))) ⌝ }
+{
+    let naxis1 = checks::size_of(header, header::record_of(first, keyword::NAXIS1));
+    let naxis2 = checks::size_of(header, header::record_of(first, keyword::NAXIS2));
+    let pcount = checks::size_of(header, header::record_of(first, keyword::PCOUNT));
+    let gcount = check_fixed(header, header::record_of(first, keyword::GCOUNT), 1);
+    let tfields = check_tfields(header, header::record_of(first, keyword::TFIELDS));
+    let theap = check_theap(
+        header,
+        header::record_of(first, keyword::THEAP),
+        naxis1 * naxis2,
+        pcount,
+    );
+    checks::before(gcount, checks::before(tfields, theap))
+}
+
+pub fn check_nine(header: &[u8], first: &[u16]) -> Check
+    requires { ⌜ now first ≡ indexBy (recordOf (now header)) ⌝ }
+    ensures { λ r. ⌜ outcomeOf r ≡ nineChecks (now (header .entry)) ⌝ }
+{
+    let kind = check_kind(header, first);
+    let sizes = check_sizes(header, first);
+    let six = checks::before(kind, sizes);
+    match six {
+        Check::Refused(refusal) => Check::Refused(refusal),
+        Check::Passed => check_rest(header, first),
+    }
+}
