@@ -13,7 +13,7 @@ use Rattle.keyword.specs.declared.Found.the-variants.{At, Nothing}
 use Rattle.header.specs.Checks.{Outcome, accepted, refused, before, checked}
 use Rattle.header.proofs.Lengths.{length-small}
 use Rattle.header.proofs.Lookup.{accepted-length}
-use Rattle.bintable.specs.Layout.{noColumn, rowBytes, columnsOf}
+use Rattle.layout.specs.Layout.{noColumn, rowBytes, columnsOf}
 use Rattle.bintable.specs.Checks.{sizeIn, valueAt, recordFor, sizeFor, firstRefusal}
 use Rattle.bintable.specs.Entry.{tfieldsCheck, sizeChecks, restChecks, kindChecks, nineChecks, columnChecks, layoutOf, check9, check10, headerChecks, allChecks}
 use Rattle.bintable.proofs.Bounds.{size-limits, main-limit, both-accepted, first-accepted, limit-holds}

@@ -23,8 +23,8 @@ use Rattle.tform.specs.declared.parsing.Element.{Element}
 use Rattle.tform.specs.declared.parsing.Element.the-variants.{Is, Unknown}
 use Rattle.tform.specs.Form.{repeatCount, elementOf, firstElement, itemsForm, pForm, qForm, typed, formOf}
 use Rattle.tform.proofs.Widths.{field-bytes-bound}
-use Rattle.bintable.specs.declared.Column.{Column}
-use Rattle.bintable.specs.Layout.{noColumn, columnBytes, rowBytes}
+use Rattle.layout.specs.declared.Column.{Column}
+use Rattle.layout.specs.Layout.{noColumn, columnBytes, rowBytes}
 use Rattle.bintable.specs.Checks.{textIn, valueAt, tformOf, ttypeOf, firstRefusal}
 use Rattle.bintable.specs.Entry.{columnCheckFor, columnChecksTo, countIn, columnAt, columnsFrom}
 use Rattle.bintable.proofs.Checked.{before-accepted, before-assoc}

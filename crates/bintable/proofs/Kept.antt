@@ -12,9 +12,9 @@ use Rattle.card.proofs.Cases.{both}
 use Rattle.keyword.specs.declared.Found.{Found}
 use Rattle.keyword.specs.declared.Found.the-variants.{At, Nothing}
 use Rattle.header.specs.Checks.{Outcome, before, checked}
-use Rattle.bintable.specs.declared.Column.{Column}
-use Rattle.bintable.specs.declared.BinTable.{BinTable}
-use Rattle.bintable.specs.Layout.{columnBytes, rowBytes, columnsOf, mainSize, dataSize, columnsOk, layoutOk}
+use Rattle.layout.specs.declared.Column.{Column}
+use Rattle.layout.specs.declared.BinTable.{BinTable}
+use Rattle.layout.specs.Layout.{columnBytes, rowBytes, columnsOf, mainSize, dataSize, columnsOk, layoutOk}
 use Rattle.bintable.specs.Checks.{notNegative, sizeIn, within, textIn, valueAt, recordFor, sizeFor, tformOf}
 use Rattle.bintable.specs.Entry.{mainOf, theapCheck, theapIn, restChecks, nineChecks, columnChecks, columnsFrom, layoutOf, check9, check10, allChecks, accepted, entryBy, entry}
 use Rattle.bintable.proofs.Bounds.{refused-not, both-accepted, first-accepted, unless-holds, size-limits}

@@ -5,8 +5,5 @@ pub mod Index
 pub mod Bounds
 pub mod Nine
 pub mod Filled
-pub mod Quotes
-pub mod Named
-pub mod Ok
 pub mod Entered
 pub mod Kept

@@ -19,11 +19,11 @@ use Rattle.tform.specs.declared.TFormType.the-variants.{Items}
 use Rattle.tform.specs.declared.TForm.{TForm}
 use Rattle.tform.specs.declared.TForm.the-variants as T
 use Rattle.tform.specs.Form.{formOf}
-use Rattle.bintable.specs.declared.Name.{Name}
-use Rattle.bintable.specs.declared.Name.the-variants.{Missing, Stretch}
-use Rattle.bintable.specs.declared.Column.{Column}
-use Rattle.bintable.specs.declared.BinTable.{BinTable}
-use Rattle.bintable.specs.Layout.{noColumn, emptyLayout, columnBytes, rowBytes, columnsOf, dataSize}
+use Rattle.layout.specs.declared.Name.{Name}
+use Rattle.layout.specs.declared.Name.the-variants.{Missing, Stretch}
+use Rattle.layout.specs.declared.Column.{Column}
+use Rattle.layout.specs.declared.BinTable.{BinTable}
+use Rattle.layout.specs.Layout.{noColumn, emptyLayout, columnBytes, rowBytes, columnsOf, dataSize}
 use Rattle.bintable.specs.Checks.{isInteger, isString, notNegative, sizeIn, within, textIn, valueAt, recordFor, sizeFor, tformOf, ttypeOf, check4, check5, check6, check7, check8, firstRefusal}
 
 -- ---- the nine names, each by 4, 5, 6 and 7

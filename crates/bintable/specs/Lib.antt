@@ -1,5 +1,2 @@
-pub mod Refusal
-pub mod Layout
 pub mod Checks
 pub mod Entry
-pub mod Names

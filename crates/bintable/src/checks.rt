@@ -2,13 +2,13 @@
 ghost use mathlib.Core.Path.{_≡_};
 ghost use Rattle.card.specs.declared.Value.the-variants.{Integer};
 ghost use Rattle.header.specs.Checks.{before, outcome};
-ghost use Rattle.bintable.specs.Refusal.{outcomeOf};
+ghost use Rattle.layout.specs.Refusal.{outcomeOf};
 ghost use Rattle.bintable.specs.Checks.{isInteger, isString, notNegative, sizeIn, within, valueAt, check4, check5, check6, check7, check8};
-use super::Check;
-use super::Refusal;
 use card::Value;
 use header::HeaderCheck;
 use keyword::Found;
+use layout::Check;
+use layout::Refusal;
 use tform::TForm;
 
 pub fn header_check(check: HeaderCheck) -> Check

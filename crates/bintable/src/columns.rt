@@ -7,21 +7,21 @@ ghost use lib.Dec.{eqb, leb};
 ghost use lib.ListN.{length, replicate};
 ghost use Rattle.card.specs.declared.Value.the-variants.{String};
 ghost use Rattle.header.specs.Checks.{recordOf, indexBy, accepted, refused, before, checked};
-ghost use Rattle.bintable.specs.declared.Check.the-variants.{Refused};
-ghost use Rattle.bintable.specs.Refusal.{outcomeOf};
-ghost use Rattle.bintable.specs.Layout.{noColumn, emptyLayout, rowBytes, columnsOk, columnsOf};
+ghost use Rattle.layout.specs.declared.Check.the-variants.{Refused};
+ghost use Rattle.layout.specs.Refusal.{outcomeOf};
+ghost use Rattle.layout.specs.Layout.{noColumn, emptyLayout, rowBytes};
 ghost use Rattle.bintable.specs.Checks.{valueAt};
 ghost use Rattle.bintable.specs.Entry.{columnCheck, columnChecksTo, columnChecks, typeIn, countIn, nameIn, theapIn, columnAt, columnsFrom, nineChecks, layoutOf, check9, entryBy, entry, layoutIn};
-use super::BinTable;
-use super::Check;
-use super::Column;
-use super::Name;
 use super::Parsed;
-use super::Refusal;
 use super::checks;
 use super::text;
 use card::Value;
 use keyword::Found;
+use layout::BinTable;
+use layout::Check;
+use layout::Column;
+use layout::Name;
+use layout::Refusal;
 use tform::TForm;
 use tform::TFormType;
 use tform::VariableArrayTy;
@@ -247,26 +247,4 @@ pub fn parse_table(header: &[u8], first: &[u16], area: &[u8]) -> Parsed
     let long = check10(size, area.len());
     let check = checks::before(of_header, long);
     answered(check, layout)
-}
-
-// The columns of a layout that has at most 64 of them.
-pub fn columns_ok(layout: BinTable) -> bool
-    requires { ⌜ layout .tfields ≤ 64 ⌝ }
-    ensures { λ r. ⌜ r ≡ columnsOk (layout .naxis1) 0 (columnsOf layout) ⌝ }
-{
-    let mut at: u64 = 0;
-    let mut i: usize = 0;
-    while i < layout.tfields {
-        let column = layout.columns[i];
-        if 8388608 < column.count {
-            return false;
-        }
-        if column.start != at {
-            return false;
-        }
-        let form = column.form;
-        at += tform::field_bytes(form, column.count);
-        i += 1;
-    }
-    at == layout.naxis1
 }

@@ -2,13 +2,13 @@
 ghost use mathlib.Core.Path.{_≡_};
 ghost use Prim.Native.Nat.{_+_, _<_, _^_};
 ghost use Rattle.header.specs.Checks.{recordOf, indexBy, accepted};
-ghost use Rattle.bintable.specs.Refusal.{outcomeOf};
+ghost use Rattle.layout.specs.Refusal.{outcomeOf};
 ghost use Rattle.bintable.specs.Checks.{firstRefusal};
 ghost use Rattle.bintable.specs.Entry.{xtensionCheck, fixedCheck, sizeCheck, tfieldsCheck, theapCheck, kindChecks, sizeChecks, restChecks, nineChecks};
-use super::Check;
 use super::checks;
 use super::text;
 use keyword::Found;
+use layout::Check;
 
 fn check_xtension(header: &[u8], found: Found) -> Check
     ensures { λ r. ⌜ outcomeOf r ≡ xtensionCheck (now (header .entry)) found ⌝ }

@@ -2,7 +2,7 @@
 -- Assumes nothing.
 use mathlib.Core.Path.{_≡_, sym, _∙_, ap}
 use Rattle.header.specs.Checks.{before, checked}
-use Rattle.bintable.specs.Refusal.{outcomeOf}
+use Rattle.layout.specs.Refusal.{outcomeOf}
 use Rattle.bintable.specs.Entry.{nineChecks}
 use Rattle.bintable.proofs.Bounds.{both-accepted}
 use Rattle.bintable.proofs.Entered.{entry-parts}

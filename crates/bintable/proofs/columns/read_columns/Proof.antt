@@ -5,8 +5,8 @@ use Rattle.bintable.proofs.Filled.{checks-none, checks-next, filled-non
 use mathlib.Core.Path.{_≡_, _∙_, ap}
 use Prim.Native.Nat.{_+_, _-_, _≤_, _<_}
 use native.Mathlib.Omega.{arith}
-use Rattle.bintable.specs.Refusal.{outcomeOf}
-use Rattle.bintable.specs.Layout.{rowBytes, columnBytes}
+use Rattle.layout.specs.Refusal.{outcomeOf}
+use Rattle.layout.specs.Layout.{rowBytes, columnBytes}
 use Rattle.bintable.proofs.Index.{at-tform, at-ttype}
 use borrow.Author.Needs.{needs}
 use Rattle.bintable.proofs.columns.read_columns.Statement.{statement}

@@ -1,17 +1,17 @@
 -- `same_name` meets its contract. The loop's invariant: the names are the same just where what is left of both is.
 -- Assumes nothing.
 use native.Mathlib.Numerals.{add-one, lt-of-le-of-ne}
-use Rattle.bintable.proofs.Quotes.{len-least, byteLen, undoubled-next, undoubled-end, len-inside, sought-over, sought-other, sought-next, sought-end}
+use Rattle.layout.proofs.Quotes.{len-least, byteLen, undoubled-next, undoubled-end, len-inside, sought-over, sought-other, sought-next, sought-end}
 use mathlib.Core.Path.{_≡_, refl, sym, _∙_, ap}
 use mathlib.Core.List.{List, _∷_}
 use Prim.Native.Nat.{ℕ, _+_, _-_, _≤_, _<_}
 use native.Mathlib.Omega.{arith}
 use lib.ListN.{length, drop, getD}
 use Rattle.card.specs.Text.{same}
-use Rattle.bintable.specs.Names.{undoubled, sameName}
+use Rattle.layout.specs.Names.{undoubled, sameName}
 use borrow.Author.Needs.{needs}
-use Rattle.bintable.proofs.ttype.same_name.Statement.{statement}
-use Rattle.bintable.proofs.ttype.same_name.Tie as tie
+use Rattle.layout.proofs.ttype.same_name.Statement.{statement}
+use Rattle.layout.proofs.ttype.same_name.Tie as tie
 
 abbrev Inv-loop : tie.InvT-loop
 Inv-loop part sought i₀ j₀ i j = (i ≤ length part) × ((j ≤ length sought) × (sameName part sought ≡ same (undoubled (drop i part)) (drop j sought)))

@@ -1,9 +1,9 @@
 -- `part` meets its contract.
 -- Assumes nothing.
-use Rattle.bintable.proofs.Named.{part-missing, part-short, part-whole}
+use Rattle.layout.proofs.Named.{part-missing, part-short, part-whole}
 use borrow.Author.Needs.{needs}
-use Rattle.bintable.proofs.ttype.part.Statement.{statement}
-use Rattle.bintable.proofs.ttype.part.Tie as tie
+use Rattle.layout.proofs.ttype.part.Statement.{statement}
+use Rattle.layout.proofs.ttype.part.Tie as tie
 
 enum-known-name : tie.Need-enum-known-name
 enum-known-name c = search needs

@@ -4,12 +4,12 @@ use mathlib.Core.Path.{_≡_, refl, sym, _∙_, ap}
 use Prim.Native.Nat.{ℕ, _+_, _-_, _*_, _≤_, _<_}
 use native.Mathlib.Omega.{arith}
 use lib.ListN.{length, drop, getD, length-map, length-take}
-use Rattle.bintable.specs.Layout.{noColumn, columnsOk, columnsOf}
-use Rattle.bintable.proofs.Named.{column-at}
-use Rattle.bintable.proofs.Ok.{column-limit, ok-next, ok-count, ok-start, ok-end}
+use Rattle.layout.specs.Layout.{noColumn, columnsOk, columnsOf}
+use Rattle.layout.proofs.Named.{column-at}
+use Rattle.layout.proofs.Ok.{column-limit, ok-next, ok-count, ok-start, ok-end}
 use borrow.Author.Needs.{needs}
-use Rattle.bintable.proofs.columns.columns_ok.Statement.{statement}
-use Rattle.bintable.proofs.columns.columns_ok.Tie as tie
+use Rattle.layout.proofs.limits.columns_ok.Statement.{statement}
+use Rattle.layout.proofs.limits.columns_ok.Tie as tie
 
 abbrev Inv-loop : tie.InvT-loop
 Inv-loop layout at₀ i₀ at i = (i ≤ layout .tfields) × ((at ≤ i * 134217744) × (columnsOk (layout .naxis1) 0 (columnsOf layout) ≡ columnsOk (layout .naxis1) at (drop i (columnsOf layout))))

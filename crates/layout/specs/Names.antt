@@ -8,11 +8,11 @@ use lib.Dec.{eqb, leb, ltb}
 use Rattle.card.specs.Text.{same}
 use Rattle.keyword.specs.declared.Found.{Found}
 use Rattle.keyword.specs.declared.Found.the-variants.{At, Nothing}
-use Rattle.bintable.specs.declared.Name.{Name}
-use Rattle.bintable.specs.declared.Name.the-variants.{Missing, Stretch}
-use Rattle.bintable.specs.declared.Column.{Column}
-use Rattle.bintable.specs.declared.BinTable.{BinTable}
-use Rattle.bintable.specs.Layout.{noColumn, columnsOf}
+use Rattle.layout.specs.declared.Name.{Name}
+use Rattle.layout.specs.declared.Name.the-variants.{Missing, Stretch}
+use Rattle.layout.specs.declared.Column.{Column}
+use Rattle.layout.specs.declared.BinTable.{BinTable}
+use Rattle.layout.specs.Layout.{noColumn, columnsOf}
 
 -- whether a header has the stretch: it is long enough
 abbrev pub reaches : List ℕ → Name → Bool

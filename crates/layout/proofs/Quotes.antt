@@ -12,7 +12,7 @@ use lib.Seq.{drop-cons, drop-drop, getD-drop}
 use borrow.Author.Tests.{eq-eqb, ne-eqb, eqb-true, eqb-false, ltb-true, ltb-false}
 use Rattle.card.specs.Text.{same}
 use Rattle.card.proofs.Cases.{either, by-test, both}
-use Rattle.bintable.specs.Names.{undoubled}
+use Rattle.layout.specs.Names.{undoubled}
 
 -- how many bytes count as the one at i
 abbrev pub byteLen : List ℕ → ℕ → ℕ

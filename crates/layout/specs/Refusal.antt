@@ -2,10 +2,10 @@
 -- Assumes nothing.
 use Prim.Native.Nat.{ℕ}
 use Rattle.header.specs.Checks.{Outcome, accepted, refused}
-use Rattle.bintable.specs.declared.Refusal.{Refusal}
-use Rattle.bintable.specs.declared.Refusal.the-variants as R
-use Rattle.bintable.specs.declared.Check.{Check}
-use Rattle.bintable.specs.declared.Check.the-variants.{Passed, Refused}
+use Rattle.layout.specs.declared.Refusal.{Refusal}
+use Rattle.layout.specs.declared.Refusal.the-variants as R
+use Rattle.layout.specs.declared.Check.{Check}
+use Rattle.layout.specs.declared.Check.the-variants.{Passed, Refused}
 
 abbrev pub numberOf : Refusal → ℕ
 numberOf R.BadLength = 1

@@ -1,8 +1,8 @@
 -- `is_reached` meets its contract.
 -- Assumes nothing.
 use borrow.Author.Needs.{needs}
-use Rattle.bintable.proofs.ttype.is_reached.Statement.{statement}
-use Rattle.bintable.proofs.ttype.is_reached.Tie as tie
+use Rattle.layout.proofs.ttype.is_reached.Statement.{statement}
+use Rattle.layout.proofs.ttype.is_reached.Tie as tie
 
 enum-told : tie.Need-enum-told
 enum-told c = search needs

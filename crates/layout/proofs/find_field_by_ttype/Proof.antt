@@ -4,12 +4,12 @@ use mathlib.Core.Path.{_≡_, refl, sym, _∙_}
 use Prim.Native.Nat.{_-_, _≤_, _<_}
 use native.Mathlib.Omega.{arith}
 use lib.ListN.{length, drop, getD, length-map, length-take}
-use Rattle.bintable.specs.Layout.{noColumn, columnsOf}
-use Rattle.bintable.specs.Names.{hasName, firstNamed, findName}
-use Rattle.bintable.proofs.Named.{column-at, named-here, named-later, named-none}
+use Rattle.layout.specs.Layout.{noColumn, columnsOf}
+use Rattle.layout.specs.Names.{hasName, firstNamed, findName}
+use Rattle.layout.proofs.Named.{column-at, named-here, named-later, named-none}
 use borrow.Author.Needs.{needs}
-use Rattle.bintable.proofs.find_field_by_ttype.Statement.{statement}
-use Rattle.bintable.proofs.find_field_by_ttype.Tie as tie
+use Rattle.layout.proofs.find_field_by_ttype.Statement.{statement}
+use Rattle.layout.proofs.find_field_by_ttype.Tie as tie
 
 abbrev Inv-loop : tie.InvT-loop
 Inv-loop header name layout count i₀ i = (i ≤ count) × (findName header layout name ≡ firstNamed header name i (drop i (columnsOf layout)))

@@ -12,12 +12,12 @@ use lib.Seq.{drop-cons, getD-take}
 use borrow.Author.Tests.{le-leb, lt-leb, lt-ltb, le-ltb}
 use Rattle.card.proofs.Cases.{either}
 use Rattle.keyword.specs.declared.Found.the-variants.{At, Nothing}
-use Rattle.bintable.specs.declared.Name.{Name}
-use Rattle.bintable.specs.declared.Name.the-variants.{Missing, Stretch}
-use Rattle.bintable.specs.declared.Column.{Column}
-use Rattle.bintable.specs.declared.BinTable.{BinTable}
-use Rattle.bintable.specs.Layout.{noColumn, columnsOf}
-use Rattle.bintable.specs.Names.{reaches, stretchOf, partOf, nameOf, hasName, firstNamed}
+use Rattle.layout.specs.declared.Name.{Name}
+use Rattle.layout.specs.declared.Name.the-variants.{Missing, Stretch}
+use Rattle.layout.specs.declared.Column.{Column}
+use Rattle.layout.specs.declared.BinTable.{BinTable}
+use Rattle.layout.specs.Layout.{noColumn, columnsOf}
+use Rattle.layout.specs.Names.{reaches, stretchOf, partOf, nameOf, hasName, firstNamed}
 
 module _ (h : List ℕ) where
   pub part-missing : [] ≡ partOf h Missing

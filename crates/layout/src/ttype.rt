@@ -4,7 +4,7 @@ ghost use mathlib.Core.Bool.{_&&_, cond};
 ghost use Prim.Native.Nat.{_+_, _<_, min};
 ghost use lib.Dec.{eqb};
 ghost use lib.ListN.{length, getD};
-ghost use Rattle.bintable.specs.Names.{reaches, stretchOf, partOf, sameName};
+ghost use Rattle.layout.specs.Names.{reaches, stretchOf, partOf, sameName};
 use super::Name;
 
 // How many columns a layout can have.

@@ -3,10 +3,10 @@
 use native.Mathlib.Omega.{arith}
 use native.Mathlib.Nat.{mul-le-mul}
 use borrow.Author.Tests.{le-leb, lt-leb}
-use Rattle.bintable.specs.Layout.{layoutOk}
+use Rattle.layout.specs.Layout.{layoutOk}
 use Prim.Native.Nat.{_*_, _≤_}
-use Rattle.bintable.proofs.layout_ok.Statement.{statement}
-use Rattle.bintable.proofs.layout_ok.Tie as tie
+use Rattle.layout.proofs.layout_ok.Statement.{statement}
+use Rattle.layout.proofs.layout_ok.Tie as tie
 
 main : (c : tie.After-struct-known5) → c .before .before .before .before .before .before .before .before .before .args .layout .naxis1 * c .before .before .before .before .before .before .before .before .before .args .layout .naxis2 ≤ 17592186044416
 main c = mul-le-mul (c .before .before .before .before .before .before .before .if1 .left) (c .before .before .before .before .before .if2 .left)

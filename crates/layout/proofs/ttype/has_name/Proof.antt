@@ -2,10 +2,10 @@
 -- Assumes nothing.
 use mathlib.Core.Path.{sym, _∙_}
 use borrow.Author.Tests.{not-true, not-false}
-use Rattle.bintable.proofs.Named.{part-reached}
+use Rattle.layout.proofs.Named.{part-reached}
 use borrow.Author.Needs.{needs}
-use Rattle.bintable.proofs.ttype.has_name.Statement.{statement}
-use Rattle.bintable.proofs.ttype.has_name.Tie as tie
+use Rattle.layout.proofs.ttype.has_name.Statement.{statement}
+use Rattle.layout.proofs.ttype.has_name.Tie as tie
 
 is-reached-requires : tie.Need-is-reached-requires
 is-reached-requires c κs = search needs

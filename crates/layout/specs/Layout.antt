@@ -8,9 +8,9 @@ use lib.Dec.{eqb, leb}
 use Rattle.tform.specs.declared.VariableArrayTy.the-variants.{L}
 use Rattle.tform.specs.declared.TFormType.the-variants.{Items}
 use Rattle.tform.specs.Width.{fieldBytes}
-use Rattle.bintable.specs.declared.Name.the-variants.{Missing}
-use Rattle.bintable.specs.declared.Column.{Column}
-use Rattle.bintable.specs.declared.BinTable.{BinTable}
+use Rattle.layout.specs.declared.Name.the-variants.{Missing}
+use Rattle.layout.specs.declared.Column.{Column}
+use Rattle.layout.specs.declared.BinTable.{BinTable}
 
 -- what stands in the array of columns where there is none
 abbrev pub noColumn : Column

@@ -11,8 +11,8 @@ use lib.ListN.{length, getD, drop, drop-of-length-le}
 use lib.Seq.{drop-cons}
 use borrow.Author.Tests.{eq-eqb, ne-eqb, le-leb, lt-leb}
 use Rattle.tform.proofs.Widths.{field-bytes-bound}
-use Rattle.bintable.specs.declared.Column.{Column}
-use Rattle.bintable.specs.Layout.{noColumn, columnBytes, columnsOk}
+use Rattle.layout.specs.declared.Column.{Column}
+use Rattle.layout.specs.Layout.{noColumn, columnBytes, columnsOk}
 
 -- the bytes of a column with a count within the limit
 pub column-limit : (c : Column) → c .count ≤ 8388608 → columnBytes c ≤ 134217744

@@ -1,9 +1,9 @@
 -- `byte_len` meets its contract.
 -- Assumes nothing.
-use Rattle.bintable.proofs.Quotes.{len-other, len-last, len-lone, len-two}
+use Rattle.layout.proofs.Quotes.{len-other, len-last, len-lone, len-two}
 use borrow.Author.Needs.{needs}
-use Rattle.bintable.proofs.ttype.byte_len.Statement.{statement}
-use Rattle.bintable.proofs.ttype.byte_len.Tie as tie
+use Rattle.layout.proofs.ttype.byte_len.Statement.{statement}
+use Rattle.layout.proofs.ttype.byte_len.Tie as tie
 
 shared-slice-read-if1 : tie.Need-shared-slice-read-if1
 shared-slice-read-if1 c = search needs

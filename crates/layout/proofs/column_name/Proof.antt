@@ -3,10 +3,10 @@
 use mathlib.Core.Path.{_≡_, _∙_}
 use native.Mathlib.Omega.{arith}
 use lib.ListN.{length, length-map}
-use Rattle.bintable.proofs.Named.{name-over, name-past, name-at}
+use Rattle.layout.proofs.Named.{name-over, name-past, name-at}
 use borrow.Author.Needs.{needs}
-use Rattle.bintable.proofs.column_name.Statement.{statement}
-use Rattle.bintable.proofs.column_name.Tie as tie
+use Rattle.layout.proofs.column_name.Statement.{statement}
+use Rattle.layout.proofs.column_name.Tie as tie
 
 sub-result : tie.Need-sub-result
 sub-result c = search needs

@@ -1,0 +1,3 @@
+pub mod Quotes
+pub mod Named
+pub mod Ok
