@@ -12,8 +12,9 @@ use Rattle.card.specs.declared.Value.{Value}
 use Rattle.keyword.specs.declared.Found.{Found}
 use Rattle.keyword.specs.declared.Found.the-variants.{At, Nothing}
 use Rattle.header.specs.Checks.{Outcome, accepted, refused, before}
-use Rattle.bintable.specs.Checks.{sizeIn, valueAt, recordFor, sizeFor, unless, check7, firstRefusal}
-use Rattle.bintable.specs.Entry.{sizeCheck, mainOf, sizeChecks}
+use Rattle.bintable.specs.Checks.{isInteger, notNegative, sizeIn, valueAt, recordFor, sizeFor, unless, check7, firstRefusal}
+use Rattle.bintable.specs.Entry.{limited, mainOf, nine}
+use Rattle.bintable.proofs.Nine.{sizes}
 
 pub refused-not : {A : Type 0} (n p : ℕ) → refused n p ≡ accepted → A
 refused-not n p e = absurd (let z : _≡_ {A = ℕ} 0 1 = cc in omega arith)
@@ -35,19 +36,21 @@ pub limit-holds : (limit : ℕ) (v : Value) (k : ℕ) → check7 limit v (At k) 
 limit-holds limit v k e = leb-true (sizeIn v) limit (unless-holds 7 (leb (sizeIn v) limit) k e)
 
 module _ (h : List ℕ) where
-  size-limit : (r : Found) (limit : ℕ) → sizeCheck h r limit ≡ accepted → sizeIn (valueAt h r) ≤ limit
-  unfolding sizeCheck
-  size-limit (At k) limit e =
+  pub value-limit : (r : Found) (kind right : Value → Bool) (limit : ℕ) → limited h r kind right limit ≡ accepted → sizeIn (valueAt h r) ≤ limit
+  unfolding limited
+  value-limit (At k) kind right limit e =
       let a = first-accepted _ _ e in let b = first-accepted _ _ (a .1) in let c = first-accepted _ _ (b .1) in
       limit-holds limit (valueAt h (At k)) k (first-accepted _ _ (c .1) .0)
-  size-limit Nothing limit e = omega arith
+  value-limit Nothing kind right limit e = omega arith
 
   -- the three sizes
-  pub size-limits : firstRefusal (sizeChecks h) ≡ accepted → (sizeFor h "NAXIS1" ≤ 1048576) × ((sizeFor h "NAXIS2" ≤ 16777216) × (sizeFor h "PCOUNT" ≤ 2147483647))
-  unfolding sizeChecks
+  pub size-limits : firstRefusal (sizes h) ≡ accepted → (sizeFor h "NAXIS1" ≤ 1048576) × ((sizeFor h "NAXIS2" ≤ 16777216) × (sizeFor h "PCOUNT" ≤ 2147483647))
+  unfolding nine
   size-limits e =
-      let a = first-accepted _ _ e in let b = first-accepted _ _ (a .1) in let c = first-accepted _ _ (b .1) in
-      (size-limit (recordFor h "NAXIS1") 1048576 (a .0), (size-limit (recordFor h "NAXIS2") 16777216 (b .0), size-limit (recordFor h "PCOUNT") 2147483647 (c .0)))
+      let a = first-accepted _ _ e in let b = first-accepted _ _ (a .1) in let c = first-accepted _ _ (b .1) in (
+        value-limit (recordFor h "NAXIS1") isInteger notNegative 1048576 (a .0),
+        (value-limit (recordFor h "NAXIS2") isInteger notNegative 16777216 (b .0), value-limit (recordFor h "PCOUNT") isInteger notNegative 2147483647 (c .0)),
+      )
 
-  pub main-limit : firstRefusal (sizeChecks h) ≡ accepted → mainOf h ≤ 17592186044416
+  pub main-limit : firstRefusal (sizes h) ≡ accepted → mainOf h ≤ 17592186044416
   main-limit e = let l = size-limits e in mul-le-mul (l .0) (l .1 .0)

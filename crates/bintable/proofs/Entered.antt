@@ -8,16 +8,14 @@ use native.Mathlib.Omega.{arith}
 use lib.Dec.{eqb}
 use lib.ListN.{length, take, replicate}
 use lib.Seq.{take-append-seam}
-use Rattle.keyword.specs.declared.Found.{Found}
-use Rattle.keyword.specs.declared.Found.the-variants.{At, Nothing}
 use Rattle.header.specs.Checks.{Outcome, accepted, refused, before, checked}
 use Rattle.header.proofs.Lengths.{length-small}
 use Rattle.header.proofs.Lookup.{accepted-length}
 use Rattle.layout.specs.Layout.{noColumn, rowBytes, columnsOf}
-use Rattle.bintable.specs.Checks.{sizeIn, valueAt, recordFor, sizeFor, firstRefusal}
-use Rattle.bintable.specs.Entry.{tfieldsCheck, sizeChecks, restChecks, kindChecks, nineChecks, columnChecks, layoutOf, check9, check10, headerChecks, allChecks}
-use Rattle.bintable.proofs.Bounds.{size-limits, main-limit, both-accepted, first-accepted, limit-holds}
-use Rattle.bintable.proofs.Nine.{nine-parts}
+use Rattle.bintable.specs.Checks.{isInteger, within, recordFor, sizeFor, firstRefusal}
+use Rattle.bintable.specs.Entry.{nine, nineChecks, columnChecks, layoutOf, check9, check10, headerChecks, allChecks}
+use Rattle.bintable.proofs.Bounds.{value-limit, size-limits, main-limit, both-accepted, first-accepted}
+use Rattle.bintable.proofs.Nine.{kinds, sizes, rest, nine-parts}
 use Rattle.bintable.proofs.Filled.{columnsTo, columns-length}
 
 regroup : (c n k r t : Outcome) → before (before c (before n (before k (before r accepted)))) t ≡ before (before c n) (before (before k r) t)
@@ -28,28 +26,21 @@ regroup accepted accepted accepted (refused x p) t = refl
 regroup accepted accepted accepted accepted t = refl
 
 module _ (h : List ℕ) where
-  tfields-limit : (r : Found) → tfieldsCheck h r ≡ accepted → sizeIn (valueAt h r) ≤ 64
-  unfolding tfieldsCheck
-  tfields-limit (At k) e =
-      let a = first-accepted _ _ e in let b = first-accepted _ _ (a .1) in let c = first-accepted _ _ (b .1) in
-      limit-holds 64 (valueAt h (At k)) k (first-accepted _ _ (c .1) .0)
-  tfields-limit Nothing e = omega arith
-
   -- what the nine checks say, in their parts
-  nine-both : nineChecks h ≡ accepted → (firstRefusal (sizeChecks h) ≡ accepted) × (firstRefusal (restChecks h) ≡ accepted)
+  nine-both : nineChecks h ≡ accepted → (firstRefusal (sizes h) ≡ accepted) × (firstRefusal (rest h) ≡ accepted)
   nine-both e =
-      let p = both-accepted (before (firstRefusal (kindChecks h)) (firstRefusal (sizeChecks h))) (firstRefusal (restChecks h)) (sym (nine-parts h) ∙ e) in
-      (both-accepted (firstRefusal (kindChecks h)) (firstRefusal (sizeChecks h)) (p .0) .1, p .1)
+      let p = both-accepted (before (firstRefusal (kinds h)) (firstRefusal (sizes h))) (firstRefusal (rest h)) (sym (nine-parts h) ∙ e) in
+      (both-accepted (firstRefusal (kinds h)) (firstRefusal (sizes h)) (p .0) .1, p .1)
 
-  pub nine-sizes : nineChecks h ≡ accepted → firstRefusal (sizeChecks h) ≡ accepted
+  pub nine-sizes : nineChecks h ≡ accepted → firstRefusal (sizes h) ≡ accepted
   nine-sizes e = nine-both e .0
 
-  pub nine-rest : nineChecks h ≡ accepted → firstRefusal (restChecks h) ≡ accepted
+  pub nine-rest : nineChecks h ≡ accepted → firstRefusal (rest h) ≡ accepted
   nine-rest e = nine-both e .1
 
   pub nine-tfields : nineChecks h ≡ accepted → sizeFor h "TFIELDS" ≤ 64
-  unfolding restChecks
-  nine-tfields e = let a = first-accepted _ _ (nine-both e .1) in tfields-limit (recordFor h "TFIELDS") (first-accepted _ _ (a .1) .0)
+  unfolding nine
+  nine-tfields e = let a = first-accepted _ _ (nine-both e .1) in value-limit h (recordFor h "TFIELDS") isInteger (within 0 999) 64 (first-accepted _ _ (a .1) .0)
 
   -- the columns of the layout
   pub columns-of : columnsOf (layoutOf h) ≡ columnsTo h (sizeFor h "TFIELDS")
@@ -75,6 +66,6 @@ module _ (h : List ℕ) where
   pub header-short : checked h ≡ accepted → length h < 2 ^ 32
   header-short e = omega (arith, length-small h (accepted-length h e))
 
-  pub entry-parts : (a : List ℕ) → allChecks h a ≡ before (before (checked h) (nineChecks h)) (before (before (columnChecks h) (check9 (layoutOf h))) (check10 (layoutOf h) a))
+  pub entry-parts : (a : List ℕ) → allChecks h a ≡ before (before (checked h) (nineChecks h)) (before (before (columnChecks h (sizeFor h "TFIELDS")) (check9 (layoutOf h))) (check10 (layoutOf h) a))
   unfolding allChecks headerChecks firstRefusal
-  entry-parts a = regroup (checked h) (nineChecks h) (columnChecks h) (check9 (layoutOf h)) (check10 (layoutOf h) a)
+  entry-parts a = regroup (checked h) (nineChecks h) (columnChecks h (sizeFor h "TFIELDS")) (check9 (layoutOf h)) (check10 (layoutOf h) a)

@@ -1,60 +1,40 @@
 -- The columns of a header, one more at the end; their counts, bytes and names are bounded.
 -- Assumes nothing.
 use mathlib.Core.Path.{_≡_, refl, sym, _∙_, ap}
+use mathlib.Core.Bool.{true}
 use mathlib.Core.List.{List, [], _∷_, _++_, map, append-assoc}
 use Prim.Native.Nat.{ℕ, zero, suc, _+_, _-_, _*_, _^_, _≤_, _<_}
 use native.Mathlib.Nat.{add-zero, add-suc, suc-add}
 use native.Mathlib.Numerals.{add-one}
 use native.Mathlib.Omega.{arith}
-use lib.Dec.{eqb, leb}
-use lib.ListN.{length, drop, replicate, set}
+use lib.ListN.{length, replicate, set}
 use lib.Seq.{set-at}
-use borrow.Author.Tests.{leb-true}
 use Rattle.card.specs.declared.Value.the-variants.{String}
-use Rattle.card.specs.Text.{front, digit}
-use Rattle.card.proofs.Cases.{by-test}
 use Rattle.card.proofs.Inside.{value-inside}
 use Rattle.keyword.specs.declared.Found.{Found}
 use Rattle.keyword.specs.declared.Found.the-variants.{At, Nothing}
 use Rattle.keyword.specs.Names.{range}
 use Rattle.header.specs.Checks.{Outcome, accepted, before}
 use Rattle.tform.specs.declared.TForm.{TForm}
-use Rattle.tform.specs.declared.parsing.Element.{Element}
-use Rattle.tform.specs.declared.parsing.Element.the-variants.{Is, Unknown}
-use Rattle.tform.specs.Form.{repeatCount, elementOf, firstElement, itemsForm, pForm, qForm, typed, formOf}
+use Rattle.tform.specs.Width.{countOk}
+use Rattle.tform.specs.Form.{formOf}
+use Rattle.tform.proofs.Count.{count-bound, CountOk, form-ok}
 use Rattle.tform.proofs.Widths.{field-bytes-bound}
 use Rattle.layout.specs.declared.Column.{Column}
 use Rattle.layout.specs.Layout.{noColumn, columnBytes, rowBytes}
-use Rattle.bintable.specs.Checks.{textIn, valueAt, tformOf, ttypeOf, firstRefusal}
-use Rattle.bintable.specs.Entry.{columnCheckFor, columnChecksTo, countIn, columnAt, columnsFrom}
+use Rattle.bintable.specs.Checks.{textIn, valueAt, tformOf, firstRefusal}
+use Rattle.bintable.specs.Entry.{columnCheck, columnChecks, typeIn, countIn, columnAt, columnsFrom}
 use Rattle.bintable.proofs.Checked.{before-accepted, before-assoc}
+use Rattle.tform.specs.declared.TForm.the-variants as T
 
 -- ---- a form's count
 
-items-count : (n : ℕ) (e : Element) → countIn (itemsForm n e) ≤ n
-items-count n (Is e) = omega arith
-items-count n Unknown = omega arith
+ok-in : (f : TForm) → CountOk f → countOk (typeIn f) (countIn f) ≡ true
+ok-in (T.Valid f n) e = e
+ok-in T.Invalid e = refl
 
-p-count : (n : ℕ) (e : Element) → countIn (pForm n e) ≤ n
-p-count n (Is e) = omega arith
-p-count n Unknown = omega arith
-
-q-count : (n : ℕ) (e : Element) → countIn (qForm n e) ≤ n
-q-count n (Is e) = omega arith
-q-count n Unknown = omega arith
-
-typed-count : (n : ℕ) (s : List ℕ) → countIn (typed n s) ≤ n
-unfolding typed
-typed-count n [] = omega arith
-typed-count n (b ∷ bs) =
-    by-test (λ (f : TForm). countIn f ≤ n) (eqb b 80) (λ e. p-count n (firstElement bs))
-    (λ e. by-test (λ (f : TForm). countIn f ≤ n) (eqb b 81) (λ e. q-count n (firstElement bs)) (λ e. items-count n (elementOf b)))
-
-pub form-count : (s : List ℕ) → countIn (formOf s) ≤ 8388608
-unfolding formOf
-form-count s =
-    by-test (λ (f : TForm). countIn f ≤ 8388608) (leb (repeatCount s) 8388608)
-    (λ e. omega (arith, typed-count (repeatCount s) (drop (front digit s) s), leb-true (repeatCount s) 8388608 e)) (λ e. omega arith)
+pub form-count : (s : List ℕ) → countOk (typeIn (formOf s)) (countIn (formOf s)) ≡ true
+form-count s = ok-in (formOf s) (form-ok s)
 
 -- ---- one column more
 
@@ -73,16 +53,16 @@ first-snoc [] o = before-accepted o
 first-snoc (x ∷ xs) o = ap (before x) (first-snoc xs o) ∙ sym (before-assoc x (firstRefusal xs) o)
 
 -- the checks of one column more
-pub checks-none : (h : List ℕ) → accepted ≡ columnChecksTo h 0
-unfolding columnChecksTo range firstRefusal
+pub checks-none : (h : List ℕ) → accepted ≡ columnChecks h 0
+unfolding columnChecks range firstRefusal
 checks-none h = refl
 
-pub checks-next : (h : List ℕ) (k : ℕ) → before (columnChecksTo h k) (columnCheckFor h (k + 1)) ≡ columnChecksTo h (k + 1)
-unfolding columnChecksTo
+pub checks-next : (h : List ℕ) (k : ℕ) → before (columnChecks h k) (columnCheck h (k + 1)) ≡ columnChecks h (k + 1)
+unfolding columnChecks
 checks-next h k =
-    sym (ap firstRefusal (ap (λ (m : ℕ). map (columnCheckFor h) (range 1 m)) (add-one k) ∙ ap (map (columnCheckFor h)) (range-snoc 1 k) ∙ map-snoc (columnCheckFor h) (range 1 k) (1 + k))
-    ∙ first-snoc (map (columnCheckFor h) (range 1 k)) (columnCheckFor h (1 + k))
-    ∙ ap (λ (m : ℕ). before (firstRefusal (map (columnCheckFor h) (range 1 k))) (columnCheckFor h m)) (omega arith))
+    sym (ap firstRefusal (ap (λ (m : ℕ). map (columnCheck h) (range 1 m)) (add-one k) ∙ ap (map (columnCheck h)) (range-snoc 1 k) ∙ map-snoc (columnCheck h) (range 1 k) (1 + k))
+    ∙ first-snoc (map (columnCheck h) (range 1 k)) (columnCheck h (1 + k))
+    ∙ ap (λ (m : ℕ). before (firstRefusal (map (columnCheck h) (range 1 k))) (columnCheck h m)) (omega arith))
 
 row-snoc : (xs : List Column) (c : Column) → rowBytes (xs ++ (c ∷ [])) ≡ rowBytes xs + columnBytes c
 unfolding rowBytes
@@ -92,7 +72,7 @@ row-snoc (x ∷ xs) c = omega (arith, row-snoc xs c)
 module _ (h : List ℕ) where
   -- column n at byte `at`
   abbrev pub columnOf : ℕ → ℕ → Column
-  columnOf at n = columnAt h (tformOf h n) (ttypeOf h n) at
+  columnOf at n = columnAt h n at
 
   pub columns-length : (at n k : ℕ) → length (columnsFrom h at n k) ≡ k
   unfolding columnsFrom
@@ -145,7 +125,7 @@ module _ (h : List ℕ) where
       ∙ sym (append-assoc (columnsTo k) (next k ∷ []) (replicate (64 - (k + 1)) noColumn)))
 
   column-bound : (at n : ℕ) → columnBytes (columnOf at n) ≤ 134217744
-  column-bound at n = omega (arith, field-bytes-bound (columnOf at n .form) (columnOf at n .count), form-count (textIn h (valueAt h (tformOf h n))))
+  column-bound at n = omega (arith, field-bytes-bound (columnOf at n .form) (columnOf at n .count), count-bound (columnOf at n .form) (columnOf at n .count) (form-count (textIn h (valueAt h (tformOf h n)))))
 
   from-bound : (at n k : ℕ) → rowBytes (columnsFrom h at n k) ≤ k * 134217744
   unfolding columnsFrom rowBytes

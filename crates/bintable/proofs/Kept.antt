@@ -16,7 +16,7 @@ use Rattle.layout.specs.declared.Column.{Column}
 use Rattle.layout.specs.declared.BinTable.{BinTable}
 use Rattle.layout.specs.Layout.{columnBytes, rowBytes, columnsOf, mainSize, dataSize, columnsOk, layoutOk}
 use Rattle.bintable.specs.Checks.{notNegative, sizeIn, within, textIn, valueAt, recordFor, sizeFor, tformOf}
-use Rattle.bintable.specs.Entry.{mainOf, theapCheck, theapIn, restChecks, nineChecks, columnChecks, columnsFrom, layoutOf, check9, check10, allChecks, accepted, entryBy, entry}
+use Rattle.bintable.specs.Entry.{mainOf, theapCheck, theapIn, nine, nineChecks, columnChecks, columnsFrom, layoutOf, check9, check10, allChecks, accepted, entryBy, entry}
 use Rattle.bintable.proofs.Bounds.{refused-not, both-accepted, first-accepted, unless-holds, size-limits}
 use Rattle.bintable.proofs.Filled.{form-count, columnOf}
 use Rattle.bintable.proofs.Entered.{nine-sizes, nine-rest, nine-tfields, columns-of, entry-parts}
@@ -34,7 +34,7 @@ module _ (h : List ℕ) where
   in-order end at n zero = ap (λ (b : ℕ). eqb b end) (omega arith)
   in-order end at n (suc k) =
       let c = columnOf h at n in
-      rw (le-leb (c .count) 8388608 (form-count (textIn h (valueAt h (tformOf h n)))), eq-eqb at at refl)
+      rw (form-count (textIn h (valueAt h (tformOf h n))), eq-eqb at at refl)
       (in-order end (at + columnBytes c) (suc n) k
       ∙ ap (λ (b : ℕ). eqb b end) (omega arith))
 
@@ -50,7 +50,7 @@ module _ (h : List ℕ) where
   range Nothing main pcount e = (omega arith, omega arith)
 
   theap-range : nineChecks h ≡ O.accepted → (mainSize (layoutOf h) ≤ layoutOf h .theap) × (layoutOf h .theap ≤ dataSize (layoutOf h))
-  unfolding layoutOf restChecks
+  unfolding layoutOf nine
   theap-range e =
       let a = first-accepted _ _ (nine-rest h e) in let b = first-accepted _ _ (a .1) in
       range (recordFor h "THEAP") (mainOf h) (sizeFor h "PCOUNT") (first-accepted _ _ (b .1) .0)
@@ -81,9 +81,9 @@ module _ (h : List ℕ) where
     parts : entry h a ≡ accepted l → ((nineChecks h ≡ O.accepted) × (check9 (layoutOf h) ≡ O.accepted)) × ((check10 (layoutOf h) a ≡ O.accepted) × (l ≡ layoutOf h))
     parts e =
         let q = passed (allChecks h a) (layoutOf h) e in
-        let w = both-accepted (before (checked h) (nineChecks h)) (before (before (columnChecks h) (check9 (layoutOf h))) (check10 (layoutOf h) a)) (sym (entry-parts h a) ∙ q .0) in
-        let v = both-accepted (before (columnChecks h) (check9 (layoutOf h))) (check10 (layoutOf h) a) (w .1) in
-        ((both-accepted (checked h) (nineChecks h) (w .0) .1, both-accepted (columnChecks h) (check9 (layoutOf h)) (v .0) .1), (v .1, q .1))
+        let w = both-accepted (before (checked h) (nineChecks h)) (before (before (columnChecks h (sizeFor h "TFIELDS")) (check9 (layoutOf h))) (check10 (layoutOf h) a)) (sym (entry-parts h a) ∙ q .0) in
+        let v = both-accepted (before (columnChecks h (sizeFor h "TFIELDS")) (check9 (layoutOf h))) (check10 (layoutOf h) a) (w .1) in
+        ((both-accepted (checked h) (nineChecks h) (w .0) .1, both-accepted (columnChecks h (sizeFor h "TFIELDS")) (check9 (layoutOf h)) (v .0) .1), (v .1, q .1))
 
     -- the header alone decides the layout
     pub entry-layout : entry h a ≡ accepted l → l ≡ layoutOf h

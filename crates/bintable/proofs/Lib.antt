@@ -7,3 +7,4 @@ pub mod Nine
 pub mod Filled
 pub mod Entered
 pub mod Kept
+pub mod OwnNames

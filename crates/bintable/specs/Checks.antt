@@ -10,7 +10,7 @@ use lib.IntN.{pos, negsuc}
 use Rattle.card.specs.declared.Value.{Value}
 use Rattle.card.specs.declared.Value.the-variants.{Integer, Invalid}
 use Rattle.card.specs.declared.Value.the-variants as Val
-use Rattle.card.specs.Text.{bytes, same}
+use Rattle.card.specs.Text.{bytes}
 use Rattle.card.specs.Value.{valueOf}
 use Rattle.keyword.specs.declared.Found.{Found}
 use Rattle.keyword.specs.declared.Found.the-variants.{At, Nothing}
@@ -38,7 +38,7 @@ notNegative (Integer (negsuc n)) = false
 notNegative (Val.String a n) = false
 notNegative Invalid = false
 
--- the number that it says; 0 for a negative one, and for what is no integer
+-- its number; 0 for a negative one, and for what is no integer
 abbrev pub sizeIn : Value → ℕ
 sizeIn (Integer (pos n)) = n
 sizeIn (Integer (negsuc n)) = 0
@@ -49,7 +49,7 @@ sizeIn Invalid = 0
 abbrev pub within : ℕ → ℕ → Value → Bool
 within low high v = notNegative v && (leb low (sizeIn v) && leb (sizeIn v) high)
 
--- the bytes of a string, trailing spaces off; none for what is no string
+-- the bytes of a string, trailing spaces off; none for what is no string. Doubled quotes are still doubled: no text that is looked for here has a quote
 abbrev pub textIn : List ℕ → Value → List ℕ
 textIn h (Integer z) = []
 textIn h (Val.String a n) = take n (drop a h)
@@ -66,7 +66,7 @@ valueAt h Nothing = Invalid
 abbrev pub recordFor : List ℕ → String → Found
 recordFor h name = recordOf h (bytes name)
 
--- the number that it says
+-- its number
 abbrev pub sizeFor : List ℕ → String → ℕ
 sizeFor h name = sizeIn (valueAt h (recordFor h name))
 
@@ -79,7 +79,7 @@ ttypeOf h n = recordOf h (bytes "TTYPE" ++ numeral n)
 
 -- ---- the checks, by their numbers
 
--- a check of a record: it refuses with the record's number. A missing record passes, since 4 decides about it
+-- a check of a record, which refuses with this number and the record as its place. A missing record passes: 4 has refused it, or it may be missing
 abbrev pub unless : ℕ → Bool → Found → Outcome
 unless number holds (At k) = cond holds accepted (refused number k)
 unless number holds Nothing = accepted

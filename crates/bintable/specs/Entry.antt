@@ -2,7 +2,7 @@
 -- Assumes nothing.
 use Prim.Native.Nat.{ℕ, zero, suc, _+_, _-_, _*_}
 use mathlib.Core.List.{List, [], _∷_, _++_, map}
-use mathlib.Core.Bool.{cond}
+use mathlib.Core.Bool.{Bool, cond}
 use lib.ListN.{length, replicate}
 use lib.Dec.{eqb, leb}
 use Rattle.card.specs.declared.Value.{Value}
@@ -23,29 +23,19 @@ use Rattle.layout.specs.declared.Name.{Name}
 use Rattle.layout.specs.declared.Name.the-variants.{Missing, Stretch}
 use Rattle.layout.specs.declared.Column.{Column}
 use Rattle.layout.specs.declared.BinTable.{BinTable}
-use Rattle.layout.specs.Layout.{noColumn, emptyLayout, columnBytes, rowBytes, columnsOf, dataSize}
+use Rattle.layout.specs.Layout.{naxis1Limit, naxis2Limit, pcountLimit, tfieldsLimit, noColumn, emptyLayout, columnBytes, rowBytes, columnsOf, dataSize}
 use Rattle.bintable.specs.Checks.{isInteger, isString, notNegative, sizeIn, within, textIn, valueAt, recordFor, sizeFor, tformOf, ttypeOf, check4, check5, check6, check7, check8, firstRefusal}
 
--- ---- the nine names, each by 4, 5, 6 and 7
+-- ---- the nine names
 
--- XTENSION is the text BINTABLE
-unfoldable pub xtensionCheck : List ℕ → Found → Outcome
-xtensionCheck h r =
-    firstRefusal (check4 0 r ∷ check5 (isString (valueAt h r)) r ∷ check6 (same (textIn h (valueAt h r)) (bytes "BINTABLE")) r ∷ [])
+-- a name that must be there, by 4, 5 and 6: it has a value of this kind, and one that is right
+unfoldable pub required : List ℕ → Found → (Value → Bool) → (Value → Bool) → Outcome
+required h r kind right = firstRefusal (check4 0 r ∷ check5 (kind (valueAt h r)) r ∷ check6 (right (valueAt h r)) r ∷ [])
 
--- BITPIX, NAXIS and GCOUNT have one value only
-unfoldable pub fixedCheck : List ℕ → Found → ℕ → Outcome
-fixedCheck h r n = firstRefusal (check4 0 r ∷ check5 (isInteger (valueAt h r)) r ∷ check6 (within n n (valueAt h r)) r ∷ [])
-
--- NAXIS1, NAXIS2 and PCOUNT are sizes with a limit
-unfoldable pub sizeCheck : List ℕ → Found → ℕ → Outcome
-sizeCheck h r limit =
-    firstRefusal (check4 0 r ∷ check5 (isInteger (valueAt h r)) r ∷ check6 (notNegative (valueAt h r)) r ∷ check7 limit (valueAt h r) r ∷ [])
-
--- TFIELDS is at most 999 by the standard, and 64 here
-unfoldable pub tfieldsCheck : List ℕ → Found → Outcome
-tfieldsCheck h r =
-    firstRefusal (check4 0 r ∷ check5 (isInteger (valueAt h r)) r ∷ check6 (within 0 999 (valueAt h r)) r ∷ check7 64 (valueAt h r) r ∷ [])
+-- the same, and by 7
+unfoldable pub limited : List ℕ → Found → (Value → Bool) → (Value → Bool) → ℕ → Outcome
+limited h r kind right limit =
+    firstRefusal (check4 0 r ∷ check5 (kind (valueAt h r)) r ∷ check6 (right (valueAt h r)) r ∷ check7 limit (valueAt h r) r ∷ [])
 
 -- THEAP may be missing; else it lies from the main size to the main size and PCOUNT
 unfoldable pub theapCheck : List ℕ → Found → ℕ → ℕ → Outcome
@@ -56,44 +46,39 @@ abbrev pub mainOf : List ℕ → ℕ
 mainOf h = sizeFor h "NAXIS1" * sizeFor h "NAXIS2"
 
 -- the nine, in their order
-unfoldable pub kindChecks : List ℕ → List Outcome
-kindChecks h = xtensionCheck h (recordFor h "XTENSION") ∷ fixedCheck h (recordFor h "BITPIX") 8 ∷ fixedCheck h (recordFor h "NAXIS") 2 ∷ []
-
-unfoldable pub sizeChecks : List ℕ → List Outcome
-sizeChecks h =
-    sizeCheck h (recordFor h "NAXIS1") 1048576 ∷ sizeCheck h (recordFor h "NAXIS2") 16777216 ∷ sizeCheck h (recordFor h "PCOUNT") 2147483647 ∷ []
-
-unfoldable pub restChecks : List ℕ → List Outcome
-restChecks h =
-    fixedCheck h (recordFor h "GCOUNT") 1 ∷ tfieldsCheck h (recordFor h "TFIELDS")
-    ∷ theapCheck h (recordFor h "THEAP") (mainOf h) (sizeFor h "PCOUNT") ∷ []
+unfoldable pub nine : List ℕ → List Outcome
+nine h =
+    required h (recordFor h "XTENSION") isString (λ (v : Value). same (textIn h v) (bytes "BINTABLE"))
+    ∷ required h (recordFor h "BITPIX") isInteger (within 8 8)
+    ∷ required h (recordFor h "NAXIS") isInteger (within 2 2)
+    ∷ limited h (recordFor h "NAXIS1") isInteger notNegative naxis1Limit
+    ∷ limited h (recordFor h "NAXIS2") isInteger notNegative naxis2Limit
+    ∷ limited h (recordFor h "PCOUNT") isInteger notNegative pcountLimit
+    ∷ required h (recordFor h "GCOUNT") isInteger (within 1 1)
+    ∷ limited h (recordFor h "TFIELDS") isInteger (within 0 999) tfieldsLimit
+    ∷ theapCheck h (recordFor h "THEAP") (mainOf h) (sizeFor h "PCOUNT")
+    ∷ []
 
 unfoldable pub nineChecks : List ℕ → Outcome
-nineChecks h = firstRefusal (kindChecks h ++ (sizeChecks h ++ restChecks h))
+nineChecks h = firstRefusal (nine h)
 
 -- ---- the columns
 
--- the form that a record of TFORMn says
-abbrev pub formAt : List ℕ → Found → TForm
-formAt h r = formOf (textIn h (valueAt h r))
+-- the form of column n
+abbrev pub formFor : List ℕ → ℕ → TForm
+formFor h n = formOf (textIn h (valueAt h (tformOf h n)))
 
--- column n with the records of TFORMn and TTYPEn: the first by 4, 5 and 8, then the other, which may be missing, by 5
-unfoldable pub columnCheck : List ℕ → ℕ → Found → Found → Outcome
-columnCheck h n r t =
-    firstRefusal (check4 n r ∷ check5 (isString (valueAt h r)) r ∷ check8 n (formAt h r) ∷ check5 (isString (valueAt h t)) t ∷ [])
-
-abbrev pub columnCheckFor : List ℕ → ℕ → Outcome
-columnCheckFor h n = columnCheck h n (tformOf h n) (ttypeOf h n)
+-- TFORMn by 4, 5 and 8, then TTYPEn, which may be missing, by 5
+unfoldable pub columnCheck : List ℕ → ℕ → Outcome
+columnCheck h n =
+    let r = tformOf h n in let t = ttypeOf h n in
+    firstRefusal (check4 n r ∷ check5 (isString (valueAt h r)) r ∷ check8 n (formFor h n) ∷ check5 (isString (valueAt h t)) t ∷ [])
 
 -- the columns from 1 to `many`
-unfoldable pub columnChecksTo : List ℕ → ℕ → Outcome
-columnChecksTo h many = firstRefusal (map (columnCheckFor h) (range 1 many))
+unfoldable pub columnChecks : List ℕ → ℕ → Outcome
+columnChecks h many = firstRefusal (map (columnCheck h) (range 1 many))
 
--- each column, from 1 to TFIELDS
-abbrev pub columnChecks : List ℕ → Outcome
-columnChecks h = columnChecksTo h (sizeFor h "TFIELDS")
-
--- what a form says; a bad one says nothing
+-- the type and the count of a form; a bad one has none
 abbrev pub typeIn : TForm → TFormType
 typeIn (T.Valid f k) = f
 typeIn T.Invalid = Items L
@@ -108,15 +93,14 @@ nameIn (Integer z) = Missing
 nameIn (String a n) = Stretch a n
 nameIn Invalid = Missing
 
--- a column with the records of TFORMn and TTYPEn, which starts at byte `at` of a row
-abbrev pub columnAt : List ℕ → Found → Found → ℕ → Column
-columnAt h r t at = record { form = typeIn (formAt h r); count = countIn (formAt h r); start = at; name = nameIn (valueAt h t) }
+-- column n, which starts at byte `at` of a row
+abbrev pub columnAt : List ℕ → ℕ → ℕ → Column
+columnAt h n at = record { form = typeIn (formFor h n); count = countIn (formFor h n); start = at; name = nameIn (valueAt h (ttypeOf h n)) }
 
 -- as many columns as `many`, from column n, which starts at byte `at`: each other one starts where the one before ends
 unfoldable pub columnsFrom : List ℕ → ℕ → ℕ → ℕ → List Column
 columnsFrom h at n zero = []
-columnsFrom h at n (suc many) =
-    let c = columnAt h (tformOf h n) (ttypeOf h n) at in c ∷ columnsFrom h (at + columnBytes c) (suc n) many
+columnsFrom h at n (suc many) = let c = columnAt h n at in c ∷ columnsFrom h (at + columnBytes c) (suc n) many
 
 -- ---- the layout, which the header alone decides
 
@@ -133,7 +117,7 @@ layoutOf h =
       pcount = sizeFor h "PCOUNT";
       theap = theapIn (mainOf h) (valueAt h (recordFor h "THEAP")) (recordFor h "THEAP");
       tfields = sizeFor h "TFIELDS";
-      columns = columnsFrom h 0 1 (sizeFor h "TFIELDS") ++ replicate (64 - sizeFor h "TFIELDS") noColumn;
+      columns = columnsFrom h 0 1 (sizeFor h "TFIELDS") ++ replicate (tfieldsLimit - sizeFor h "TFIELDS") noColumn;
     }
 
 -- 9: the bytes of the fields do not add up to NAXIS1
@@ -148,7 +132,7 @@ check10 l a = cond (leb (dataSize l) (length a)) O.accepted (O.refused 10 0)
 
 -- the checks of the header: 1, 2 and 3, the nine names, the columns, 9
 unfoldable pub headerChecks : List ℕ → Outcome
-headerChecks h = firstRefusal (checked h ∷ nineChecks h ∷ columnChecks h ∷ check9 (layoutOf h) ∷ [])
+headerChecks h = firstRefusal (checked h ∷ nineChecks h ∷ columnChecks h (sizeFor h "TFIELDS") ∷ check9 (layoutOf h) ∷ [])
 
 -- all checks, in their order: the data area is looked at last, and for its length alone
 unfoldable pub allChecks : List ℕ → List ℕ → Outcome

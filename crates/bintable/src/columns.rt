@@ -2,7 +2,7 @@
 ghost use mathlib.Core.Path.{_≡_};
 ghost use mathlib.Core.Bool.{cond};
 ghost use mathlib.Core.List.{_++_};
-ghost use Prim.Native.Nat.{ℕ, _-_, _≤_, _<_, _^_};
+ghost use Prim.Native.Nat.{ℕ, _+_, _-_, _≤_, _<_, _^_};
 ghost use lib.Dec.{eqb, leb};
 ghost use lib.ListN.{length, replicate};
 ghost use Rattle.card.specs.declared.Value.the-variants.{String};
@@ -10,8 +10,8 @@ ghost use Rattle.header.specs.Checks.{recordOf, indexBy, accepted, refused, bef
 ghost use Rattle.layout.specs.declared.Check.the-variants.{Refused};
 ghost use Rattle.layout.specs.Refusal.{outcomeOf};
 ghost use Rattle.layout.specs.Layout.{noColumn, emptyLayout, rowBytes};
-ghost use Rattle.bintable.specs.Checks.{valueAt};
-ghost use Rattle.bintable.specs.Entry.{columnCheck, columnChecksTo, columnChecks, typeIn, countIn, nameIn, theapIn, columnAt, columnsFrom, nineChecks, layoutOf, check9, entryBy, entry, layoutIn};
+ghost use Rattle.bintable.specs.Checks.{sizeFor};
+ghost use Rattle.bintable.specs.Entry.{columnCheck, columnChecks, typeIn, countIn, nameIn, theapIn, columnAt, columnsFrom, nineChecks, layoutOf, check9, allChecks, entryBy, entry, layoutIn};
 use super::Parsed;
 use super::checks;
 use super::text;
@@ -22,6 +22,7 @@ use layout::Check;
 use layout::Column;
 use layout::Name;
 use layout::Refusal;
+use layout::TFIELDS_LIMIT;
 use tform::TForm;
 use tform::TFormType;
 use tform::VariableArrayTy;
@@ -34,7 +35,7 @@ pub struct ReadColumn {
 // The columns up to TFIELDS and the bytes that they take in a row.
 pub struct ReadColumns {
     pub check: Check,
-    pub columns: [Column; 64],
+    pub columns: [Column; TFIELDS_LIMIT],
     pub bytes: u64,
 }
 
@@ -54,7 +55,7 @@ fn empty_layout() -> BinTable
     ensures { λ r. ⌜ r ≡ emptyLayout ⌝ }
 {
     let none = no_column();
-    let columns = [none; 64];
+    let columns = [none; TFIELDS_LIMIT];
     BinTable {
         naxis1: 0,
         naxis2: 0,
@@ -94,7 +95,7 @@ fn count_in(form: TForm) -> u32
     }
 }
 
-// A header's stretches fit 32 bits.
+// The stretch that a value is, which fits 32 bits as every one of a header does.
 fn name_in(value: Value) -> Name
     requires { ⌜ ((a n : ℕ) → value ≡ String a n → (a < 2 ^ 32) × (n < 2 ^ 32)) ⌝ }
     ensures { λ r. ⌜ r ≡ nameIn value ⌝ }
@@ -109,50 +110,50 @@ fn name_in(value: Value) -> Name
     }
 }
 
-// Column n with the records of its form and its name.
-fn read_column(header: &[u8], n: usize, form: Found, name: Found, start: u64) -> ReadColumn
-    requires { ⌜ length (now header) < 2 ^ 32 ⌝ }
-    ensures check { λ r. ⌜ outcomeOf (r .check) ≡ columnCheck (now (header .entry)) n form name ⌝ }
-    ensures column { λ r. ⌜ r .column ≡ columnAt (now (header .entry)) form name start ⌝ }
+// Column i, from 0, which starts at byte `start` of a row.
+fn read_column(header: &[u8], first: &[u16], i: usize, start: u64) -> ReadColumn
+    requires { ⌜ (now first ≡ indexBy (recordOf (now header))) × ((length (now header) < 2 ^ 32) × (i < 999)) ⌝ }
+    ensures check { λ r. ⌜ outcomeOf (r .check) ≡ columnCheck (now (header .entry)) (i + 1) ⌝ }
+    ensures column { λ r. ⌜ r .column ≡ columnAt (now (header .entry)) (i + 1) start ⌝ }
 {
-    let value = checks::value_of(header, form);
-    let tform = tform::parse_tform(text::text_of(header, value));
-    let ttype = checks::value_of(header, name);
-    let c4 = checks::check4(form, n);
-    let c5 = checks::check5(checks::is_string(value), form);
-    let c8 = checks::check8(n, tform);
-    let named = checks::check5(checks::is_string(ttype), name);
+    let form_record = header::record_of(first, keyword::TFORM1 + i);
+    let name_record = header::record_of(first, keyword::TTYPE1 + i);
+    let value = checks::value_of(header, form_record);
+    let form = tform::parse_tform(text::text_of(header, value));
+    let name = checks::value_of(header, name_record);
+    let c4 = checks::check4(form_record, i + 1);
+    let c5 = checks::check5(checks::is_string(value), form_record);
+    let c8 = checks::check8(i + 1, form);
+    let named = checks::check5(checks::is_string(name), name_record);
     let check = checks::before(c4, checks::before(c5, checks::before(c8, named)));
     let column = Column {
-        form: type_in(tform),
-        count: count_in(tform),
+        form: type_in(form),
+        count: count_in(form),
         start,
-        name: name_in(ttype),
+        name: name_in(name),
     };
     ReadColumn { check, column }
 }
 
 fn read_columns(header: &[u8], first: &[u16], tfields: usize) -> ReadColumns
     requires { ⌜ (now first ≡ indexBy (recordOf (now header))) × ((length (now header) < 2 ^ 32) × (tfields ≤ 64)) ⌝ }
-    ensures check { λ r. ⌜ outcomeOf (r .check) ≡ columnChecksTo (now (header .entry)) tfields ⌝ }
+    ensures check { λ r. ⌜ outcomeOf (r .check) ≡ columnChecks (now (header .entry)) tfields ⌝ }
     ensures columns { λ r. ⌜ r .columns ≡ columnsFrom (now (header .entry)) 0 1 tfields ++ replicate (64 - tfields) noColumn ⌝ }
     ensures bytes { λ r. ⌜ r .bytes ≡ rowBytes (columnsFrom (now (header .entry)) 0 1 tfields) ⌝ }
 {
     let none = no_column();
-    let mut columns = [none; 64];
+    let mut columns = [none; TFIELDS_LIMIT];
     let mut check = Check::Passed;
     let mut start: u64 = 0;
     let mut i: usize = 0;
     while i < tfields {
-        let form = header::record_of(first, keyword::TFORM1 + i);
-        let name = header::record_of(first, keyword::TTYPE1 + i);
-        let read = read_column(header, i + 1, form, name, start);
+        let read = read_column(header, first, i, start);
         let column = read.column;
         let column_check = read.check;
         check = checks::before(check, column_check);
         columns[i] = column;
         let column_form = column.form;
-        start += tform::field_bytes(column_form, column.count);
+        start += tform::num_bytes_field(column_form, column.count);
         i += 1;
     }
     ReadColumns {
@@ -187,13 +188,13 @@ fn check10(size: u64, len: usize) -> Check
     if size <= len as u64 {
         return Check::Passed;
     }
-    Check::Refused(Refusal::ShortData)
+    Check::Refused(Refusal::Mismatch)
 }
 
-// The layout of a header whose nine names are in order, and the checks of its columns.
+// The layout of a header whose nine names pass their checks, and the checks of its columns.
 fn read_layout(header: &[u8], first: &[u16]) -> Parsed
     requires { ⌜ (now first ≡ indexBy (recordOf (now header))) × ((checked (now header) ≡ accepted) × (nineChecks (now header) ≡ accepted)) ⌝ }
-    ensures check { λ r. ⌜ outcomeOf (r .check) ≡ before (columnChecks (now (header .entry))) (check9 (layoutOf (now (header .entry)))) ⌝ }
+    ensures check { λ r. ⌜ outcomeOf (r .check) ≡ before (columnChecks (now (header .entry)) (sizeFor (now (header .entry)) "TFIELDS")) (check9 (layoutOf (now (header .entry)))) ⌝ }
     ensures layout { λ r. ⌜ r .layout ≡ layoutOf (now (header .entry)) ⌝ }
 {
     let naxis1 = checks::size_of(header, header::record_of(first, keyword::NAXIS1));
@@ -222,7 +223,7 @@ fn read_layout(header: &[u8], first: &[u16]) -> Parsed
 
 // The layout, or a refusal beside the empty one.
 fn answered(check: Check, layout: BinTable) -> Parsed
-    ensures answer { λ r. ⌜ entryBy (outcomeOf (r .check)) (r .layout) ≡ entryBy (outcomeOf check) layout ⌝ }
+    ensures check { λ r. ⌜ outcomeOf (r .check) ≡ outcomeOf check ⌝ }
     ensures layout { λ r. ⌜ r .layout ≡ layoutIn (entryBy (outcomeOf check) layout) ⌝ }
 {
     match check {
@@ -234,10 +235,10 @@ fn answered(check: Check, layout: BinTable) -> Parsed
     }
 }
 
-// What `parse` answers on a header whose nine names are in order.
+// What `parse` answers on a header whose nine names pass their checks.
 pub fn parse_table(header: &[u8], first: &[u16], area: &[u8]) -> Parsed
     requires { ⌜ (now first ≡ indexBy (recordOf (now header))) × ((checked (now header) ≡ accepted) × (nineChecks (now header) ≡ accepted)) ⌝ }
-    ensures answer { λ r. ⌜ entryBy (outcomeOf (r .check)) (r .layout) ≡ entry (now (header .entry)) (now (area .entry)) ⌝ }
+    ensures check { λ r. ⌜ outcomeOf (r .check) ≡ allChecks (now (header .entry)) (now (area .entry)) ⌝ }
     ensures layout { λ r. ⌜ r .layout ≡ layoutIn (entry (now (header .entry)) (now (area .entry))) ⌝ }
 {
     let read = read_layout(header, first);

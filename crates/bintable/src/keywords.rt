@@ -1,17 +1,25 @@
 // The nine names that are not numbered by column, each by checks 4, 5, 6 and 7. `first` is the header's index of first records.
 ghost use mathlib.Core.Path.{_≡_};
 ghost use Prim.Native.Nat.{_+_, _<_, _^_};
+ghost use lib.ListN.{take, drop};
+ghost use Rattle.card.specs.declared.Value.{Value};
+ghost use Rattle.card.specs.Text.{bytes, same};
 ghost use Rattle.header.specs.Checks.{recordOf, indexBy, accepted};
+ghost use Rattle.layout.specs.Layout.{tfieldsLimit};
 ghost use Rattle.layout.specs.Refusal.{outcomeOf};
-ghost use Rattle.bintable.specs.Checks.{firstRefusal};
-ghost use Rattle.bintable.specs.Entry.{xtensionCheck, fixedCheck, sizeCheck, tfieldsCheck, theapCheck, kindChecks, sizeChecks, restChecks, nineChecks};
+ghost use Rattle.bintable.specs.Checks.{isInteger, isString, notNegative, within, textIn, firstRefusal};
+ghost use Rattle.bintable.specs.Entry.{required, limited, theapCheck, nine, nineChecks};
 use super::checks;
 use super::text;
 use keyword::Found;
 use layout::Check;
+use layout::NAXIS1_LIMIT;
+use layout::NAXIS2_LIMIT;
+use layout::PCOUNT_LIMIT;
+use layout::TFIELDS_LIMIT;
 
 fn check_xtension(header: &[u8], found: Found) -> Check
-    ensures { λ r. ⌜ outcomeOf r ≡ xtensionCheck (now (header .entry)) found ⌝ }
+    ensures { λ r. ⌜ outcomeOf r ≡ required (now (header .entry)) found isString (λ (v : Value). same (textIn (now (header .entry)) v) (bytes "BINTABLE")) ⌝ }
 {
     let value = checks::value_of(header, found);
     let right = card::same_bytes(text::text_of(header, value), b"BINTABLE");
@@ -23,7 +31,7 @@ fn check_xtension(header: &[u8], found: Found) -> Check
 
 // A name that has one value only.
 fn check_fixed(header: &[u8], found: Found, n: u64) -> Check
-    ensures { λ r. ⌜ outcomeOf r ≡ fixedCheck (now (header .entry)) found n ⌝ }
+    ensures { λ r. ⌜ outcomeOf r ≡ required (now (header .entry)) found isInteger (within n n) ⌝ }
 {
     let value = checks::value_of(header, found);
     let c4 = checks::check4(found, 0);
@@ -34,7 +42,7 @@ fn check_fixed(header: &[u8], found: Found, n: u64) -> Check
 
 // A size and its limit.
 fn check_size(header: &[u8], found: Found, limit: u64) -> Check
-    ensures { λ r. ⌜ outcomeOf r ≡ sizeCheck (now (header .entry)) found limit ⌝ }
+    ensures { λ r. ⌜ outcomeOf r ≡ limited (now (header .entry)) found isInteger notNegative limit ⌝ }
 {
     let value = checks::value_of(header, found);
     let c4 = checks::check4(found, 0);
@@ -45,13 +53,13 @@ fn check_size(header: &[u8], found: Found, limit: u64) -> Check
 }
 
 fn check_tfields(header: &[u8], found: Found) -> Check
-    ensures { λ r. ⌜ outcomeOf r ≡ tfieldsCheck (now (header .entry)) found ⌝ }
+    ensures { λ r. ⌜ outcomeOf r ≡ limited (now (header .entry)) found isInteger (within 0 999) tfieldsLimit ⌝ }
 {
     let value = checks::value_of(header, found);
     let c4 = checks::check4(found, 0);
     let c5 = checks::check5(checks::is_integer(value), found);
     let c6 = checks::check6(checks::is_within(value, 0, 999), found);
-    let c7 = checks::check7(64, value, found);
+    let c7 = checks::check7(TFIELDS_LIMIT as u64, value, found);
     checks::before(c4, checks::before(c5, checks::before(c6, c7)))
 }
 
@@ -68,7 +76,7 @@ fn check_theap(header: &[u8], found: Found, main: u64, pcount: u64) -> Check
 // XTENSION, BITPIX and NAXIS.
 fn check_kind(header: &[u8], first: &[u16]) -> Check
     requires { ⌜ now first ≡ indexBy (recordOf (now header)) ⌝ }
-    ensures { λ r. ⌜ outcomeOf r ≡ firstRefusal (kindChecks (now (header .entry))) ⌝ }
+    ensures { λ r. ⌜ outcomeOf r ≡ firstRefusal (take 3 (nine (now (header .entry)))) ⌝ }
 {
     let xtension = check_xtension(header, header::record_of(first, keyword::XTENSION));
     let bitpix = check_fixed(header, header::record_of(first, keyword::BITPIX), 8);
@@ -79,10 +87,18 @@ fn check_kind(header: &[u8], first: &[u16]) -> Check
 // NAXIS1, NAXIS2 and PCOUNT.
 fn check_sizes(header: &[u8], first: &[u16]) -> Check
     requires { ⌜ now first ≡ indexBy (recordOf (now header)) ⌝ }
-    ensures { λ r. ⌜ outcomeOf r ≡ firstRefusal (sizeChecks (now (header .entry))) ⌝ }
+    ensures { λ r. ⌜ outcomeOf r ≡ firstRefusal (take 3 (drop 3 (nine (now (header .entry))))) ⌝ }
 {
-    let naxis1 = check_size(header, header::record_of(first, keyword::NAXIS1), 1048576);
-    let naxis2 = check_size(header, header::record_of(first, keyword::NAXIS2), 16777216);
+    let naxis1 = check_size(
+        header,
+        header::record_of(first, keyword::NAXIS1),
+        NAXIS1_LIMIT,
+    );
+    let naxis2 = check_size(
+        header,
+        header::record_of(first, keyword::NAXIS2),
+        NAXIS2_LIMIT,
+    );
     let pcount = check_size(
         header,
         header::record_of(first, keyword::PCOUNT),
@@ -93,8 +109,8 @@ fn check_sizes(header: &[u8], first: &[u16]) -> Check
 
 // GCOUNT, TFIELDS and THEAP, whose range needs sizes within their limits.
 fn check_rest(header: &[u8], first: &[u16]) -> Check
-    requires { ⌜ (now first ≡ indexBy (recordOf (now header))) × (firstRefusal (sizeChecks (now header)) ≡ accepted) ⌝ }
-    ensures { λ r. ⌜ outcomeOf r ≡ firstRefusal (restChecks (now (header .entry))) ⌝ }
+    requires { ⌜ (now first ≡ indexBy (recordOf (now header))) × (firstRefusal (take 3 (drop 3 (nine (now header)))) ≡ accepted) ⌝ }
+    ensures { λ r. ⌜ outcomeOf r ≡ firstRefusal (drop 6 (nine (now (header .entry)))) ⌝ }
 {
     let naxis1 = checks::size_of(header, header::record_of(first, keyword::NAXIS1));
     let naxis2 = checks::size_of(header, header::record_of(first, keyword::NAXIS2));

@@ -6,7 +6,7 @@ mod text;
 
 ghost use mathlib.Core.Path.{_≡_};
 ghost use Rattle.layout.specs.Refusal.{outcomeOf};
-ghost use Rattle.bintable.specs.Entry.{entryBy, entry, layoutIn};
+ghost use Rattle.bintable.specs.Entry.{allChecks, entry, layoutIn};
 use layout::BinTable;
 use layout::Check;
 
@@ -18,7 +18,7 @@ pub struct Parsed {
 
 // The layout of a table, or what refuses it.
 pub fn parse(header: &[u8], area: &[u8]) -> Parsed
-    ensures answer { λ r. ⌜ entryBy (outcomeOf (r .check)) (r .layout) ≡ entry (now (header .entry)) (now (area .entry)) ⌝ }
+    ensures check { λ r. ⌜ outcomeOf (r .check) ≡ allChecks (now (header .entry)) (now (area .entry)) ⌝ }
     ensures layout { λ r. ⌜ r .layout ≡ layoutIn (entry (now (header .entry)) (now (area .entry))) ⌝ }
 {
     let parsed = header::parse(header);

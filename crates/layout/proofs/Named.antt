@@ -17,7 +17,7 @@ use Rattle.layout.specs.declared.Name.the-variants.{Missing, Stretch}
 use Rattle.layout.specs.declared.Column.{Column}
 use Rattle.layout.specs.declared.BinTable.{BinTable}
 use Rattle.layout.specs.Layout.{noColumn, columnsOf}
-use Rattle.layout.specs.Names.{reaches, stretchOf, partOf, nameOf, hasName, firstNamed}
+use Rattle.layout.specs.Names.{inHeader, stretchOf, partOf, columnName, hasName, firstNamed}
 
 module _ (h : List ℕ) where
   pub part-missing : [] ≡ partOf h Missing
@@ -33,21 +33,21 @@ module _ (h : List ℕ) where
   part-whole a n l = let e : a + n - a ≡ n = omega arith in rw (e, le-leb (a + n) (length h) l)
 
   -- a name that is reached is its part
-  pub part-reached : (s : Name) → reaches h s ≡ true → partOf h s ≡ stretchOf h s
+  pub part-in-header : (s : Name) → inHeader h s ≡ true → partOf h s ≡ stretchOf h s
   unfolding partOf
-  part-reached s e = rw e
+  part-in-header s e = rw e
 
   module _ (l : BinTable) (c : ℕ) where
-    pub name-over : l .tfields ≤ c → [] ≡ nameOf h l c
-    unfolding nameOf
+    pub name-over : l .tfields ≤ c → [] ≡ columnName h l c
+    unfolding columnName
     name-over p = rw (le-ltb c (l .tfields) p)
 
-    pub name-past : length (l .columns) ≤ c → [] ≡ nameOf h l c
-    unfolding nameOf partOf
+    pub name-past : length (l .columns) ≤ c → [] ≡ columnName h l c
+    unfolding columnName partOf
     name-past p = rw (List·getD-eq-default (l .columns) noColumn {n = c} p) (either (ltb c (l .tfields)) (λ e. rw e) (λ e. rw e))
 
-    pub name-at : c < l .tfields → partOf h (getD (l .columns) c noColumn .name) ≡ nameOf h l c
-    unfolding nameOf
+    pub name-at : c < l .tfields → partOf h (getD (l .columns) c noColumn .name) ≡ columnName h l c
+    unfolding columnName
     name-at p = rw (lt-ltb c (l .tfields) p)
 
   -- the search, from column i on

@@ -7,10 +7,23 @@ use lib.ListN.{take, replicate}
 use lib.Dec.{eqb, leb}
 use Rattle.tform.specs.declared.VariableArrayTy.the-variants.{L}
 use Rattle.tform.specs.declared.TFormType.the-variants.{Items}
-use Rattle.tform.specs.Width.{fieldBytes}
+use Rattle.tform.specs.Width.{fieldBytes, countOk}
 use Rattle.layout.specs.declared.Name.the-variants.{Missing}
 use Rattle.layout.specs.declared.Column.{Column}
 use Rattle.layout.specs.declared.BinTable.{BinTable}
+
+-- the limits of this reader
+abbrev pub naxis1Limit : ℕ
+naxis1Limit = 1048576
+
+abbrev pub naxis2Limit : ℕ
+naxis2Limit = 16777216
+
+abbrev pub pcountLimit : ℕ
+pcountLimit = 2147483647
+
+abbrev pub tfieldsLimit : ℕ
+tfieldsLimit = 64
 
 -- what stands in the array of columns where there is none
 abbrev pub noColumn : Column
@@ -18,7 +31,7 @@ noColumn = record { form = Items L; count = 0; start = 0; name = Missing }
 
 -- the layout beside a refusal
 abbrev pub emptyLayout : BinTable
-emptyLayout = record { naxis1 = 0; naxis2 = 0; pcount = 0; theap = 0; tfields = 0; columns = replicate 64 noColumn }
+emptyLayout = record { naxis1 = 0; naxis2 = 0; pcount = 0; theap = 0; tfields = 0; columns = replicate tfieldsLimit noColumn }
 
 -- the bytes of a column in a row
 abbrev pub columnBytes : Column → ℕ
@@ -44,10 +57,10 @@ dataSize l = mainSize l + l .pcount
 -- each count is within its limit, each column starts where the one before ends, the first at byte `at`, and the last ends at byte `end`
 unfoldable pub columnsOk : ℕ → ℕ → List Column → Bool
 columnsOk end at [] = eqb at end
-columnsOk end at (c ∷ cs) = leb (c .count) 8388608 && (eqb (c .start) at && columnsOk end (at + columnBytes c) cs)
+columnsOk end at (c ∷ cs) = countOk (c .form) (c .count) && (eqb (c .start) at && columnsOk end (at + columnBytes c) cs)
 
 -- the layout keeps every limit and sum
 unfoldable pub layoutOk : BinTable → Bool
 layoutOk l =
-    leb (l .naxis1) 1048576 && (leb (l .naxis2) 16777216 && (leb (l .pcount) 2147483647 && (leb (l .tfields) 64
+    leb (l .naxis1) naxis1Limit && (leb (l .naxis2) naxis2Limit && (leb (l .pcount) pcountLimit && (leb (l .tfields) tfieldsLimit
     && (leb (mainSize l) (l .theap) && (leb (l .theap) (dataSize l) && columnsOk (l .naxis1) 0 (columnsOf l))))))

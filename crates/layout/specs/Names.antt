@@ -14,23 +14,23 @@ use Rattle.layout.specs.declared.Column.{Column}
 use Rattle.layout.specs.declared.BinTable.{BinTable}
 use Rattle.layout.specs.Layout.{noColumn, columnsOf}
 
--- whether a header has the stretch: it is long enough
-abbrev pub reaches : List ℕ → Name → Bool
-reaches h Missing = false
-reaches h (Stretch a n) = leb (a + n) (length h)
+-- whether a header has the name: it is not missing, and the header is long enough for its stretch
+abbrev pub inHeader : List ℕ → Name → Bool
+inHeader h Missing = false
+inHeader h (Stretch a n) = leb (a + n) (length h)
 
--- the bytes of the stretch
+-- the bytes of the stretch; none for a missing name
 abbrev pub stretchOf : List ℕ → Name → List ℕ
 stretchOf h Missing = []
 stretchOf h (Stretch a n) = take n (drop a h)
 
 -- the part of the header that is the name; empty if the name is missing or the header is too short for it
 unfoldable pub partOf : List ℕ → Name → List ℕ
-partOf h s = cond (reaches h s) (stretchOf h s) []
+partOf h s = cond (inHeader h s) (stretchOf h s) []
 
 -- the name of a column; empty if there is no such column
-unfoldable pub nameOf : List ℕ → BinTable → ℕ → List ℕ
-nameOf h l c = cond (ltb c (l .tfields)) (partOf h (getD (l .columns) c noColumn .name)) []
+unfoldable pub columnName : List ℕ → BinTable → ℕ → List ℕ
+columnName h l c = cond (ltb c (l .tfields)) (partOf h (getD (l .columns) c noColumn .name)) []
 
 -- two quotes (39) next to each other, taken from the front, count as one
 unfoldable pub undoubled : List ℕ → List ℕ
@@ -44,13 +44,13 @@ sameName part sought = same (undoubled part) sought
 
 -- whether a column has the name sought
 abbrev pub hasName : List ℕ → List ℕ → Column → Bool
-hasName h sought c = reaches h (c .name) && sameName (stretchOf h (c .name)) sought
+hasName h sought c = inHeader h (c .name) && sameName (stretchOf h (c .name)) sought
 
 -- the first of some columns that has the name, counted from c
 unfoldable pub firstNamed : List ℕ → List ℕ → ℕ → List Column → Found
 firstNamed h sought c [] = Nothing
 firstNamed h sought c (x ∷ xs) = cond (hasName h sought x) (At c) (firstNamed h sought (suc c) xs)
 
--- the column of a name
+-- the first column that has the name
 unfoldable pub findName : List ℕ → BinTable → List ℕ → Found
 findName h l sought = firstNamed h sought 0 (columnsOf l)

@@ -17,8 +17,7 @@ numberOf (R.InvalidValue k) = 6
 numberOf (R.AboveLimit k) = 7
 numberOf (R.BadForm n) = 8
 numberOf R.RowSizeMismatch = 9
-numberOf R.ShortData = 10
-numberOf R.DoesNotBelong = 10
+numberOf R.Mismatch = 10
 numberOf R.NoColumn = 11
 numberOf (R.NoSuchRow r) = 12
 numberOf (R.ArrayOutsideHeap c) = 13
@@ -34,14 +33,13 @@ placeOf (R.InvalidValue k) = k
 placeOf (R.AboveLimit k) = k
 placeOf (R.BadForm n) = n
 placeOf R.RowSizeMismatch = 0
-placeOf R.ShortData = 0
-placeOf R.DoesNotBelong = 0
+placeOf R.Mismatch = 0
 placeOf R.NoColumn = 0
 placeOf (R.NoSuchRow r) = r
 placeOf (R.ArrayOutsideHeap c) = c
 placeOf (R.ShortList n) = n
 
--- what the code's answer says
+-- the outcome that the code's answer is
 abbrev pub outcomeOf : Check → Outcome
 outcomeOf Passed = accepted
 outcomeOf (Refused r) = refused (numberOf r) (placeOf r)

@@ -5,9 +5,18 @@ mod ttype;
 ghost use mathlib.Core.Path.{_≡_};
 ghost use Rattle.layout.specs.Refusal.{numberOf, placeOf};
 ghost use Rattle.layout.specs.Layout.{layoutOk};
-ghost use Rattle.layout.specs.Names.{nameOf, findName};
+ghost use Rattle.layout.specs.Names.{columnName, findName};
 use keyword::Found;
 use tform::TFormType;
+
+// The limits of this reader.
+pub const NAXIS1_LIMIT: u64 = 1048576;
+
+pub const NAXIS2_LIMIT: u64 = 16777216;
+
+pub const PCOUNT_LIMIT: u64 = 2147483647;
+
+pub const TFIELDS_LIMIT: usize = 64;
 
 // The causes of a refusal. docs/FORMAT.md, section 10, gives each its number and place.
 pub enum Refusal {
@@ -20,9 +29,9 @@ pub enum Refusal {
     AboveLimit { record: usize },
     BadForm { n: usize },
     RowSizeMismatch,
-    ShortData,
+    // The data area is too short; later also: the layout breaks a limit or sum, or the cursor is another table's.
+    Mismatch,
     // Those of the calls after the layout.
-    DoesNotBelong,
     NoColumn,
     NoSuchRow { row: usize },
     ArrayOutsideHeap { column: usize },
@@ -48,14 +57,14 @@ pub struct Column {
     pub name: Name,
 }
 
-// The columns are the first `tfields` of `columns`.
+// The layout of a table. Its columns are the first `tfields` of `columns`.
 pub struct BinTable {
     pub naxis1: u64,
     pub naxis2: u64,
     pub pcount: u64,
     pub theap: u64,
     pub tfields: usize,
-    pub columns: [Column; 64],
+    pub columns: [Column; TFIELDS_LIMIT],
 }
 
 // The number of a refusal.
@@ -72,8 +81,7 @@ pub fn number(refusal: Refusal) -> u64
         Refusal::AboveLimit { record: _ } => 7,
         Refusal::BadForm { n: _ } => 8,
         Refusal::RowSizeMismatch => 9,
-        Refusal::ShortData => 10,
-        Refusal::DoesNotBelong => 10,
+        Refusal::Mismatch => 10,
         Refusal::NoColumn => 11,
         Refusal::NoSuchRow { row: _ } => 12,
         Refusal::ArrayOutsideHeap { column: _ } => 13,
@@ -95,8 +103,7 @@ pub fn place(refusal: Refusal) -> u64
         Refusal::AboveLimit { record } => record as u64,
         Refusal::BadForm { n } => n as u64,
         Refusal::RowSizeMismatch => 0,
-        Refusal::ShortData => 0,
-        Refusal::DoesNotBelong => 0,
+        Refusal::Mismatch => 0,
         Refusal::NoColumn => 0,
         Refusal::NoSuchRow { row } => row as u64,
         Refusal::ArrayOutsideHeap { column } => column as u64,
@@ -108,16 +115,16 @@ pub fn place(refusal: Refusal) -> u64
 pub fn layout_ok(layout: BinTable) -> bool
     ensures { λ r. ⌜ r ≡ layoutOk layout ⌝ }
 {
-    if 1048576 < layout.naxis1 {
+    if NAXIS1_LIMIT < layout.naxis1 {
         return false;
     }
-    if 16777216 < layout.naxis2 {
+    if NAXIS2_LIMIT < layout.naxis2 {
         return false;
     }
-    if 2147483647 < layout.pcount {
+    if PCOUNT_LIMIT < layout.pcount {
         return false;
     }
-    if 64 < layout.tfields {
+    if TFIELDS_LIMIT < layout.tfields {
         return false;
     }
     let main = layout.naxis1 * layout.naxis2;
@@ -132,12 +139,12 @@ pub fn layout_ok(layout: BinTable) -> bool
 
 // The name of a column, as a part of the header; empty if there is no such column or name, or the header is too short for it.
 pub fn column_name(header: &[u8], layout: BinTable, column: usize) -> &[u8]
-    ensures { λ r. ⌜ now r ≡ nameOf (now (header .entry)) layout column ⌝ }
+    ensures { λ r. ⌜ now r ≡ columnName (now (header .entry)) layout column ⌝ }
 {
     if layout.tfields <= column {
         return &header[0..0];
     }
-    if 64 <= column {
+    if TFIELDS_LIMIT <= column {
         return &header[0..0];
     }
     let found = layout.columns[column];
@@ -145,7 +152,7 @@ pub fn column_name(header: &[u8], layout: BinTable, column: usize) -> &[u8]
     ttype::part(header, name)
 }
 
-// The first column with a name.
+// The first column that has this name, two quotes of the header counted as one.
 pub fn find_field_by_ttype(header: &[u8], layout: BinTable, name: &[u8]) -> Found
     ensures { λ r. ⌜ r ≡ findName (now (header .entry)) layout (now (name .entry)) ⌝ }
 {

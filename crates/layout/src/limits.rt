@@ -1,10 +1,10 @@
-// The columns of a layout that anybody made.
+// The counts and starts of the columns of a layout, which anybody can make.
 ghost use mathlib.Core.Path.{_≡_};
 ghost use Prim.Native.Nat.{_≤_};
 ghost use Rattle.layout.specs.Layout.{columnsOk, columnsOf};
 use super::BinTable;
 
-// The columns of a layout that has at most 64 of them.
+// Whether each count is within its limit, each column starts where the one before ends, and the last ends with the row.
 pub fn columns_ok(layout: BinTable) -> bool
     requires { ⌜ layout .tfields ≤ 64 ⌝ }
     ensures { λ r. ⌜ r ≡ columnsOk (layout .naxis1) 0 (columnsOf layout) ⌝ }
@@ -13,14 +13,14 @@ pub fn columns_ok(layout: BinTable) -> bool
     let mut i: usize = 0;
     while i < layout.tfields {
         let column = layout.columns[i];
-        if 8388608 < column.count {
+        let form = column.form;
+        if !tform::count_ok(form, column.count) {
             return false;
         }
         if column.start != at {
             return false;
         }
-        let form = column.form;
-        at += tform::field_bytes(form, column.count);
+        at += tform::num_bytes_field(form, column.count);
         i += 1;
     }
     at == layout.naxis1

@@ -1,18 +1,19 @@
-// The names of columns in a header lent again.
+// The names of columns, in a header that may be another than the one the layout was made from.
 ghost use mathlib.Core.Path.{_≡_};
 ghost use mathlib.Core.Bool.{_&&_, cond};
 ghost use Prim.Native.Nat.{_+_, _<_, min};
 ghost use lib.Dec.{eqb};
 ghost use lib.ListN.{length, getD};
-ghost use Rattle.layout.specs.Names.{reaches, stretchOf, partOf, sameName};
+ghost use Rattle.layout.specs.Names.{inHeader, stretchOf, partOf, sameName};
 use super::Name;
+use super::TFIELDS_LIMIT;
 
-// How many columns a layout can have.
+// How many columns a layout has: `tfields`, or all where that is more.
 pub fn column_count(tfields: usize) -> usize
     ensures { λ r. ⌜ r ≡ min tfields 64 ⌝ }
 {
-    if 64 < tfields {
-        return 64;
+    if TFIELDS_LIMIT < tfields {
+        return TFIELDS_LIMIT;
     }
     tfields
 }
@@ -33,8 +34,8 @@ pub fn part(header: &[u8], name: Name) -> &[u8]
 }
 
 // Whether there is a name, and the header is long enough for it.
-fn is_reached(header: &[u8], name: Name) -> bool
-    ensures { λ r. ⌜ r ≡ reaches (now (header .entry)) name ⌝ }
+fn in_header(header: &[u8], name: Name) -> bool
+    ensures { λ r. ⌜ r ≡ inHeader (now (header .entry)) name ⌝ }
 {
     match name {
         Name::Missing => false,
@@ -81,9 +82,9 @@ fn same_name(part: &[u8], sought: &[u8]) -> bool
 
 // Whether a column's name is the one sought.
 pub fn has_name(header: &[u8], name: Name, sought: &[u8]) -> bool
-    ensures { λ r. ⌜ r ≡ (reaches (now (header .entry)) name && sameName (stretchOf (now (header .entry)) name) (now (sought .entry))) ⌝ }
+    ensures { λ r. ⌜ r ≡ (inHeader (now (header .entry)) name && sameName (stretchOf (now (header .entry)) name) (now (sought .entry))) ⌝ }
 {
-    if !is_reached(header, name) {
+    if !in_header(header, name) {
         return false;
     }
     same_name(part(header, name), sought)

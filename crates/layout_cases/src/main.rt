@@ -85,7 +85,7 @@ fn print_column(number: usize, column: Column) {
     put_form(form);
     put_number(b" ", column.count as u64);
     put_number(b" at ", column.start);
-    put_number(b" bytes ", tform::field_bytes(form, column.count));
+    put_number(b" bytes ", tform::num_bytes_field(form, column.count));
     match name {
         Name::Missing => put(b" missing"),
         Name::Stretch { start, len } => {

@@ -1,17 +1,22 @@
 -- The count of a form: capped at each digit, it is still within the limit just where the exact one is.
 -- Assumes nothing.
-use mathlib.Core.Path.{_≡_}
+use mathlib.Core.Path.{_≡_, refl}
 use mathlib.Core.List.{List}
-use mathlib.Core.Bool.{cond}
-use Prim.Native.Nat.{ℕ, _+_, _*_, _≤_, _<_, min}
+use mathlib.Core.Bool.{true, cond}
+use Prim.Native.Nat.{ℕ, _+_, _*_, _≤_, min}
 use native.Mathlib.Omega.{arith}
-use lib.Dec.{eqb}
+use lib.Dec.{eqb, leb}
 use lib.ListN.{take, drop}
-use borrow.Author.Tests.{le-leb, lt-leb}
+use borrow.Author.Tests.{lt-leb, leb-true, leb-false}
 use Rattle.card.specs.Text.{front, digit, decimal}
-use Rattle.card.proofs.Cases.{either}
-use Rattle.tform.specs.declared.TForm.the-variants.{Invalid}
-use Rattle.tform.specs.Form.{repeatCount, typed, formOf}
+use Rattle.card.proofs.Cases.{either, by-test}
+use Rattle.tform.specs.declared.TFormType.{TFormType}
+use Rattle.tform.specs.declared.TForm.{TForm}
+use Rattle.tform.specs.declared.TForm.the-variants.{Valid, Invalid}
+use Rattle.tform.specs.declared.parsing.Kind.{Kind}
+use Rattle.tform.specs.declared.parsing.Kind.the-variants.{Is, Unknown}
+use Rattle.tform.specs.Width.{countOk}
+use Rattle.tform.specs.Form.{repeatCount, kindOf, counted, formOf}
 
 pub cap-next : (a d : ℕ) → min 8388609 (min 8388609 a * 10 + d) ≡ min 8388609 (a * 10 + d)
 cap-next a d = omega arith
@@ -24,12 +29,31 @@ capped-is : (s : List ℕ) → cappedCount s ≡ min 8388609 (repeatCount s)
 unfolding repeatCount
 capped-is s = either (eqb (front digit s) 0) (λ e. rw e) (λ e. rw e)
 
-pub form-over : (s : List ℕ) → 8388608 < cappedCount s → Invalid ≡ formOf s
-unfolding formOf
-form-over s h = rw (lt-leb (repeatCount s) 8388608 (omega (arith, capped-is s, h)))
+-- a form with the count capped
+counted-capped : (n : ℕ) (k : Kind) → counted (min 8388609 n) k ≡ counted n k
+counted-capped n (Is f) =
+    either (leb n 8388608)
+    (λ e. let q : min 8388609 n ≡ n = omega (arith, leb-true n 8388608 e) in rw q)
+    (λ e. rw (e, lt-leb (min 8388609 n) 8388608 (omega (arith, leb-false n 8388608 e))))
+counted-capped n Unknown = refl
 
-pub form-within : (s : List ℕ) → cappedCount s ≤ 8388608 → typed (cappedCount s) (drop (front digit s) s) ≡ formOf s
+pub form-capped : (s : List ℕ) → counted (cappedCount s) (kindOf (drop (front digit s) s)) ≡ formOf s
 unfolding formOf
-form-within s h =
-    let e : cappedCount s ≡ repeatCount s = omega (arith, capped-is s, h) in
-    rw (e, le-leb (repeatCount s) 8388608 (omega (arith, e, h)))
+form-capped s = rw (capped-is s) (counted-capped (repeatCount s) (kindOf (drop (front digit s) s)))
+
+-- the bound of a count that is within its limit
+pub count-bound : (f : TFormType) (n : ℕ) → countOk f n ≡ true → n ≤ 8388608
+count-bound f n e = leb-true n 8388608 e
+
+-- the count of a form that is read is within its limit
+abbrev pub CountOk : TForm → Type 0
+CountOk (Valid f n) = countOk f n ≡ true
+CountOk Invalid = Unit {0}
+
+counted-ok : (n : ℕ) (k : Kind) → CountOk (counted n k)
+counted-ok n (Is f) = by-test CountOk (countOk f n) (λ e. e) (λ e. tt)
+counted-ok n Unknown = tt
+
+pub form-ok : (s : List ℕ) → CountOk (formOf s)
+unfolding formOf
+form-ok s = counted-ok (repeatCount s) (kindOf (drop (front digit s) s))

@@ -1,5 +1,5 @@
 pub mod Tables
 pub mod Widths
 pub mod Count
-pub mod Typed
+pub mod Letters
 pub mod Examples

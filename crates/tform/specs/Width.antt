@@ -3,7 +3,7 @@
 use Prim.Native.Nat.{ℕ, _+_, _*_, _/_}
 use mathlib.Core.List.{List, [], _∷_}
 use mathlib.Core.Bool.{Bool, false, _||_, cond}
-use lib.Dec.{eqb}
+use lib.Dec.{eqb, leb}
 use Rattle.card.specs.Text.{bytes}
 use Rattle.tform.specs.declared.VariableArrayTy.{VariableArrayTy}
 use Rattle.tform.specs.declared.VariableArrayTy.the-variants.{L, X, B, I, J, K, A, E, D, C, M}
@@ -67,3 +67,7 @@ fieldItems (Q e) n = 1
 -- the bytes of a field
 abbrev pub fieldBytes : TFormType → ℕ → ℕ
 fieldBytes f n = fieldItems f n * letterWidth (formLetter f)
+
+-- the limit of a count
+abbrev pub countOk : TFormType → ℕ → Bool
+countOk f n = leb n 8388608

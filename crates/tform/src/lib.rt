@@ -2,8 +2,9 @@
 mod parsing;
 
 ghost use mathlib.Core.Path.{_≡_};
-ghost use Rattle.tform.specs.Width.{letter, formLetter, letterWidth, items, fieldItems, fieldBytes};
-ghost use Rattle.tform.specs.Form.{formOf};
+ghost use Rattle.tform.specs.Width.{letter, formLetter, letterWidth, items, fieldItems, fieldBytes, countOk};
+ghost use Rattle.tform.specs.Form.{counted, formOf};
+use parsing::Kind;
 
 // What one item is, in a column or in an array of the heap.
 pub enum VariableArrayTy {
@@ -28,7 +29,7 @@ pub enum TFormType {
     Q(VariableArrayTy),
 }
 
-// What a TFORMn text says.
+// The value of TFORMn.
 pub enum TForm {
     Valid { form: TFormType, count: u32 },
     Invalid,
@@ -138,20 +139,36 @@ pub fn field_items(form: TFormType, count: u32) -> u64
 }
 
 // The bytes of a field in a row.
-pub fn field_bytes(form: TFormType, count: u32) -> u64
+pub fn num_bytes_field(form: TFormType, count: u32) -> u64
     ensures { λ r. ⌜ r ≡ fieldBytes form count ⌝ }
 {
     field_items(form, count) * item_width(form_letter(form)) as u64
 }
 
-// The form that a text says: digits, a letter, and a rest that is ignored.
+// Whether a count is within its limit.
+pub fn count_ok(form: TFormType, count: u32) -> bool
+    ensures { λ r. ⌜ r ≡ countOk form count ⌝ }
+{
+    count <= 8388608
+}
+
+fn counted(kind: Kind, count: u32) -> TForm
+    ensures { λ r. ⌜ r ≡ counted count kind ⌝ }
+{
+    let Kind::Is(form) = kind else {
+        return TForm::Invalid;
+    };
+    if count_ok(form, count) {
+        return TForm::Valid { form, count };
+    }
+    TForm::Invalid
+}
+
+// The form that a text is: digits, a letter, and a rest that is ignored.
 pub fn parse_tform(text: &[u8]) -> TForm
     ensures { λ r. ⌜ r ≡ formOf (now (text .entry)) ⌝ }
 {
     let digits = card::text::leading_digits(text);
     let count = parsing::repeat_count(text, digits);
-    if 8388608 < count {
-        return TForm::Invalid;
-    }
-    parsing::typed(&text[digits..], count)
+    counted(parsing::kind_of(&text[digits..]), count)
 }

@@ -5,14 +5,20 @@ ghost use Prim.Native.Nat.{_≤_, min};
 ghost use lib.Dec.{eqb};
 ghost use lib.ListN.{take};
 ghost use Rattle.card.specs.Text.{front, digit, decimal};
-ghost use Rattle.tform.specs.Form.{elementOf, firstElement, itemsForm, pForm, qForm, typed};
-use super::TForm;
+ghost use Rattle.tform.specs.declared.TFormType.the-variants.{Items, P, Q};
+ghost use Rattle.tform.specs.Form.{elementOf, firstElement, kindWith, kindOf};
 use super::TFormType;
 use super::VariableArrayTy;
 
-// What a letter says of an item.
+// The type of an item, or of an array's elements, by its letter.
 pub enum Element {
     Is(VariableArrayTy),
+    Unknown,
+}
+
+// A form without its count.
+pub enum Kind {
+    Is(TFormType),
     Unknown,
 }
 
@@ -26,7 +32,7 @@ fn capped(n: u32) -> u32
     n
 }
 
-// The count that the digits say, which may be any number of them, capped.
+// The count of so many digits, capped.
 fn capped_count(text: &[u8], digits: usize) -> u32
     requires { ⌜ digits ≤ front digit (now text) ⌝ }
     ensures { λ r. ⌜ r ≡ min 8388609 (decimal 0 (take digits (now (text .entry)))) ⌝ }
@@ -79,54 +85,45 @@ fn first_element(text: &[u8]) -> Element
     element_of(text[0])
 }
 
-fn items_form(element: Element, count: u32) -> TForm
-    ensures { λ r. ⌜ r ≡ itemsForm count element ⌝ }
+fn items_kind(element: Element) -> Kind
+    ensures { λ r. ⌜ r ≡ kindWith Items element ⌝ }
 {
     match element {
-        Element::Is(ty) => TForm::Valid {
-            form: TFormType::Items(ty),
-            count,
-        },
-        Element::Unknown => TForm::Invalid,
+        Element::Is(ty) => Kind::Is(TFormType::Items(ty)),
+        Element::Unknown => Kind::Unknown,
     }
 }
 
-fn p_form(element: Element, count: u32) -> TForm
-    ensures { λ r. ⌜ r ≡ pForm count element ⌝ }
+fn p_kind(element: Element) -> Kind
+    ensures { λ r. ⌜ r ≡ kindWith P element ⌝ }
 {
     match element {
-        Element::Is(ty) => TForm::Valid {
-            form: TFormType::P(ty),
-            count,
-        },
-        Element::Unknown => TForm::Invalid,
+        Element::Is(ty) => Kind::Is(TFormType::P(ty)),
+        Element::Unknown => Kind::Unknown,
     }
 }
 
-fn q_form(element: Element, count: u32) -> TForm
-    ensures { λ r. ⌜ r ≡ qForm count element ⌝ }
+fn q_kind(element: Element) -> Kind
+    ensures { λ r. ⌜ r ≡ kindWith Q element ⌝ }
 {
     match element {
-        Element::Is(ty) => TForm::Valid {
-            form: TFormType::Q(ty),
-            count,
-        },
-        Element::Unknown => TForm::Invalid,
+        Element::Is(ty) => Kind::Is(TFormType::Q(ty)),
+        Element::Unknown => Kind::Unknown,
     }
 }
 
-// The form of a count and the text after its digits.
-pub fn typed(text: &[u8], count: u32) -> TForm
-    ensures { λ r. ⌜ r ≡ typed count (now (text .entry)) ⌝ }
+// The form by the letters after the digits.
+pub fn kind_of(text: &[u8]) -> Kind
+    ensures { λ r. ⌜ r ≡ kindOf (now (text .entry)) ⌝ }
 {
     if text.len() == 0 {
-        return TForm::Invalid;
+        return Kind::Unknown;
     }
     if text[0] == 80 {
-        return p_form(first_element(&text[1..]), count);
+        return p_kind(first_element(&text[1..]));
     }
     if text[0] == 81 {
-        return q_form(first_element(&text[1..]), count);
+        return q_kind(first_element(&text[1..]));
     }
-    items_form(element_of(text[0]), count)
+    items_kind(element_of(text[0]))
 }

@@ -1,6 +1,6 @@
 -- `parse_table` meets its contract.
 -- Assumes nothing.
-use mathlib.Core.Path.{_≡_}
+use mathlib.Core.Path.{_≡_, _∙_}
 use native.Mathlib.Omega.{arith}
 use Rattle.layout.specs.Refusal.{outcomeOf}
 use Rattle.bintable.specs.Entry.{check10, allChecks}
@@ -38,7 +38,7 @@ answered-requires : tie.Need-answered-requires
 answered-requires c κs = search needs
 
 returns : tie.Need-returns
-returns c = (rw (← checks (c .before), ← c .before .before .before .before .before .before .read-layout .ensures .1) (c .answered .ensures .0), rw (← checks (c .before), ← c .before .before .before .before .before .before .read-layout .ensures .1) (c .answered .ensures .1))
+returns c = (c .answered .ensures .0 ∙ checks (c .before), rw (← checks (c .before), ← c .before .before .before .before .before .before .read-layout .ensures .1) (c .answered .ensures .1))
 
 pub parse-table-spec : {M : Type 1} → statement M
 parse-table-spec =

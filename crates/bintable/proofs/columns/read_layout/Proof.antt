@@ -76,7 +76,7 @@ before-requires c κs = search needs
 returns : tie.Need-returns
 unfolding layoutOf
 returns c = (
-  rw (c .before2 .ensures, c .before .check9 .ensures, c .before .before .before .read-columns .ensures .0, c .before .before .before .read-columns .ensures .1 .1, tfields (c .before .before .before .before .before .before), naxis1 (c .before .before .before .before .before .before)) (ap (before (columnChecks (c .before .before .before .before .before .before .before .before .before .before .before .before .before .before .before .before .before .args .header .now))) (row-check (c .before .before .before .before .before .before .before .before .before .before .before .before .before .before .before .before .before .args .header .now))),
+  rw (c .before2 .ensures, c .before .check9 .ensures, c .before .before .before .read-columns .ensures .0, c .before .before .before .read-columns .ensures .1 .1, tfields (c .before .before .before .before .before .before), naxis1 (c .before .before .before .before .before .before)) (ap (before (columnChecks (c .before .before .before .before .before .before .before .before .before .before .before .before .before .before .before .before .before .args .header .now) (sizeFor (c .before .before .before .before .before .before .before .before .before .before .before .before .before .before .before .before .before .args .header .now) "TFIELDS"))) (row-check (c .before .before .before .before .before .before .before .before .before .before .before .before .before .before .before .before .before .args .header .now))),
   rw (c .before .before .before .read-columns .ensures .1 .0, c .before .before .before .before .heap-start .ensures, c .before .before .before .before .before .value-of .ensures, tfields (c .before .before .before .before .before .before), naxis1 (c .before .before .before .before .before .before), naxis2 (c .before .before .before .before .before .before), pcount (c .before .before .before .before .before .before), theap (c .before .before .before .before .before .before)),
 )
 

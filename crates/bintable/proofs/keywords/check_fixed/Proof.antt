@@ -1,6 +1,6 @@
 -- `check_fixed` meets its contract.
 -- Assumes nothing.
-use Rattle.bintable.specs.Entry.{fixedCheck}
+use Rattle.bintable.specs.Entry.{required}
 use Rattle.bintable.proofs.Checked.{first-three}
 use borrow.Author.Needs.{needs}
 use Rattle.bintable.proofs.keywords.check_fixed.Statement.{statement}
@@ -31,7 +31,7 @@ before-requires-2 : tie.Need-before-requires-2
 before-requires-2 c κs = search needs
 
 returns : tie.Need-returns
-unfolding fixedCheck
+unfolding required
 returns c = rw (c .before3 .ensures, c .before .before2 .ensures, c .before .before .check6 .ensures, c .before .before .before .is-within .ensures, c .before .before .before .before .check5 .ensures, c .before .before .before .before .before .is-integer .ensures, c .before .before .before .before .before .before .check4 .ensures, c .before .before .before .before .before .before .before .value-of .ensures) (first-three _ _ _)
 
 pub check-fixed-spec : {M : Type 1} → statement M

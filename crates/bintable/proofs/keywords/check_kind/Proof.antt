@@ -1,6 +1,6 @@
 -- `check_kind` meets its contract.
 -- Assumes nothing.
-use Rattle.bintable.specs.Entry.{kindChecks}
+use Rattle.bintable.specs.Entry.{nine}
 use Rattle.bintable.proofs.Checked.{first-three}
 use Rattle.bintable.proofs.Index.{at-xtension, at-bitpix, at-naxis}
 use borrow.Author.Needs.{needs}
@@ -32,7 +32,7 @@ before-requires-2 : tie.Need-before-requires-2
 before-requires-2 c κs = search needs
 
 returns : tie.Need-returns
-unfolding kindChecks
+unfolding nine
 returns c = rw (c .before3 .ensures, c .before .before2 .ensures, c .before .before .check-fixed2 .ensures, c .before .before .before .record-of3 .ensures, c .before .before .before .before .check-fixed .ensures, c .before .before .before .before .before .record-of2 .ensures, c .before .before .before .before .before .before .check-xtension .ensures, c .before .before .before .before .before .before .before .record-of .ensures, at-xtension (c .before .before .before .before .before .before .before .before .before .before .args .header .now) (c .before .before .before .before .before .before .before .before .before .before .args .first .now) (c .before .before .before .before .before .before .before .before .before .before .pre), at-bitpix (c .before .before .before .before .before .before .before .before .before .before .args .header .now) (c .before .before .before .before .before .before .before .before .before .before .args .first .now) (c .before .before .before .before .before .before .before .before .before .before .pre), at-naxis (c .before .before .before .before .before .before .before .before .before .before .args .header .now) (c .before .before .before .before .before .before .before .before .before .before .args .first .now) (c .before .before .before .before .before .before .before .before .before .before .pre)) (first-three _ _ _)
 
 pub check-kind-spec : {M : Type 1} → statement M

@@ -4,9 +4,8 @@ use mathlib.Core.Path.{_≡_, sym, _∙_, ap}
 use Rattle.header.specs.Checks.{before}
 use Rattle.layout.specs.Refusal.{outcomeOf}
 use Rattle.bintable.specs.Checks.{firstRefusal}
-use Rattle.bintable.specs.Entry.{kindChecks, sizeChecks}
 use Rattle.bintable.proofs.Bounds.{both-accepted}
-use Rattle.bintable.proofs.Nine.{nine-parts}
+use Rattle.bintable.proofs.Nine.{kinds, sizes, nine-parts}
 use borrow.Author.Needs.{needs}
 use Rattle.bintable.proofs.keywords.check_nine.Statement.{statement}
 use Rattle.bintable.proofs.keywords.check_nine.Tie as tie
@@ -15,7 +14,7 @@ check-kind-requires : tie.Need-check-kind-requires
 check-kind-requires c κs = search needs
 
 -- the first six
-six : (c : tie.After-before2) → outcomeOf (c .before2 .result) ≡ before (firstRefusal (kindChecks (c .before .before .before .before .before .args .header .now))) (firstRefusal (sizeChecks (c .before .before .before .before .before .args .header .now)))
+six : (c : tie.After-before2) → outcomeOf (c .before2 .result) ≡ before (firstRefusal (kinds (c .before .before .before .before .before .args .header .now))) (firstRefusal (sizes (c .before .before .before .before .before .args .header .now)))
 six c = rw (← c .before .check-sizes .ensures, ← c .before .before .check-kind .ensures) (c .before2 .ensures)
 
 check-sizes-requires : tie.Need-check-sizes-requires
@@ -31,7 +30,7 @@ enum-told : tie.Need-enum-told
 enum-told c = search needs
 
 check-rest-requires : tie.Need-check-rest-requires
-check-rest-requires c κs = (c .before .before .before .before .before .before .before .pre, both-accepted (firstRefusal (kindChecks (c .before .before .before .before .before .before .before .args .header .now))) (firstRefusal (sizeChecks (c .before .before .before .before .before .before .before .args .header .now))) (sym (six (c .before .before)) ∙ ap outcomeOf (c .enum-told .given .1)) .1)
+check-rest-requires c κs = (c .before .before .before .before .before .before .before .pre, both-accepted (firstRefusal (kinds (c .before .before .before .before .before .before .before .args .header .now))) (firstRefusal (sizes (c .before .before .before .before .before .before .before .args .header .now))) (sym (six (c .before .before)) ∙ ap outcomeOf (c .enum-told .given .1)) .1)
 
 returns : tie.Need-returns
 returns c = rw (nine-parts (c .before .before .before .before .before .before .before .before .args .header .now), ← six (c .before .before .before), c .before .six .given .1)

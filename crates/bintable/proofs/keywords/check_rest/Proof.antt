@@ -4,7 +4,7 @@ use mathlib.Core.Path.{_≡_}
 use Prim.Native.Nat.{_*_}
 use native.Mathlib.Omega.{arith}
 use Rattle.bintable.specs.Checks.{sizeFor}
-use Rattle.bintable.specs.Entry.{restChecks, mainOf}
+use Rattle.bintable.specs.Entry.{nine, mainOf}
 use Rattle.bintable.proofs.Bounds.{size-limits, main-limit}
 use Rattle.bintable.proofs.Checked.{first-three}
 use Rattle.bintable.proofs.Index.{at-naxis1, at-naxis2, at-pcount, at-gcount, at-tfields, at-theap}
@@ -64,7 +64,7 @@ before-requires-2 : tie.Need-before-requires-2
 before-requires-2 c κs = search needs
 
 returns : tie.Need-returns
-unfolding restChecks
+unfolding nine
 returns c = rw (c .before3 .ensures, c .before .before2 .ensures, c .before .before .check-theap .ensures, c .before .before .before .record-of6 .ensures, c .before .before .before .before .check-tfields .ensures, c .before .before .before .before .before .record-of5 .ensures, c .before .before .before .before .before .before .check-fixed .ensures, c .before .before .before .before .before .before .before .record-of4 .ensures, main (c .before .before .before), pcount (c .before .before .before), at-gcount (c .before .before .before .before .before .before .before .before .before .before .before .before .before .before .before .before .args .header .now) (c .before .before .before .before .before .before .before .before .before .before .before .before .before .before .before .before .args .first .now) (c .before .before .before .before .before .before .before .before .before .before .before .before .before .before .before .before .pre .0), at-tfields (c .before .before .before .before .before .before .before .before .before .before .before .before .before .before .before .before .args .header .now) (c .before .before .before .before .before .before .before .before .before .before .before .before .before .before .before .before .args .first .now) (c .before .before .before .before .before .before .before .before .before .before .before .before .before .before .before .before .pre .0), at-theap (c .before .before .before .before .before .before .before .before .before .before .before .before .before .before .before .before .args .header .now) (c .before .before .before .before .before .before .before .before .before .before .before .before .before .before .before .before .args .first .now) (c .before .before .before .before .before .before .before .before .before .before .before .before .before .before .before .before .pre .0)) (first-three _ _ _)
 
 pub check-rest-spec : {M : Type 1} → statement M

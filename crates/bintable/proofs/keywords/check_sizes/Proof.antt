@@ -1,6 +1,6 @@
 -- `check_sizes` meets its contract.
 -- Assumes nothing.
-use Rattle.bintable.specs.Entry.{sizeChecks}
+use Rattle.bintable.specs.Entry.{nine}
 use Rattle.bintable.proofs.Checked.{first-three}
 use Rattle.bintable.proofs.Index.{at-naxis1, at-naxis2, at-pcount}
 use borrow.Author.Needs.{needs}
@@ -32,7 +32,7 @@ before-requires-2 : tie.Need-before-requires-2
 before-requires-2 c κs = search needs
 
 returns : tie.Need-returns
-unfolding sizeChecks
+unfolding nine
 returns c = rw (c .before3 .ensures, c .before .before2 .ensures, c .before .before .check-size3 .ensures, c .before .before .before .record-of3 .ensures, c .before .before .before .before .check-size2 .ensures, c .before .before .before .before .before .record-of2 .ensures, c .before .before .before .before .before .before .check-size .ensures, c .before .before .before .before .before .before .before .record-of .ensures, at-naxis1 (c .before .before .before .before .before .before .before .before .before .before .args .header .now) (c .before .before .before .before .before .before .before .before .before .before .args .first .now) (c .before .before .before .before .before .before .before .before .before .before .pre), at-naxis2 (c .before .before .before .before .before .before .before .before .before .before .args .header .now) (c .before .before .before .before .before .before .before .before .before .before .args .first .now) (c .before .before .before .before .before .before .before .before .before .before .pre), at-pcount (c .before .before .before .before .before .before .before .before .before .before .args .header .now) (c .before .before .before .before .before .before .before .before .before .before .args .first .now) (c .before .before .before .before .before .before .before .before .before .before .pre)) (first-three _ _ _)
 
 pub check-sizes-spec : {M : Type 1} → statement M

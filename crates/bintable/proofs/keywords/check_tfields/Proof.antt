@@ -1,6 +1,6 @@
 -- `check_tfields` meets its contract.
 -- Assumes nothing.
-use Rattle.bintable.specs.Entry.{tfieldsCheck}
+use Rattle.bintable.specs.Entry.{limited}
 use Rattle.bintable.proofs.Checked.{first-four}
 use borrow.Author.Needs.{needs}
 use Rattle.bintable.proofs.keywords.check_tfields.Statement.{statement}
@@ -37,7 +37,7 @@ before-requires-3 : tie.Need-before-requires-3
 before-requires-3 c κs = search needs
 
 returns : tie.Need-returns
-unfolding tfieldsCheck
+unfolding limited
 returns c = rw (c .before4 .ensures, c .before .before3 .ensures, c .before .before .before2 .ensures, c .before .before .before .check7 .ensures, c .before .before .before .before .check6 .ensures, c .before .before .before .before .before .is-within .ensures, c .before .before .before .before .before .before .check5 .ensures, c .before .before .before .before .before .before .before .is-integer .ensures, c .before .before .before .before .before .before .before .before .check4 .ensures, c .before .before .before .before .before .before .before .before .before .value-of .ensures) (first-four _ _ _ _)
 
 pub check-tfields-spec : {M : Type 1} → statement M

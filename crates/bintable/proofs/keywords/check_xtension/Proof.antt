@@ -1,7 +1,7 @@
 -- `check_xtension` meets its contract.
 -- Assumes nothing.
 use Rattle.card.specs.Text.{bytes}
-use Rattle.bintable.specs.Entry.{xtensionCheck}
+use Rattle.bintable.specs.Entry.{required}
 use Rattle.bintable.proofs.Checked.{first-three}
 use borrow.Author.Needs.{needs}
 use Rattle.bintable.proofs.keywords.check_xtension.Statement.{statement}
@@ -38,7 +38,7 @@ before-requires-2 : tie.Need-before-requires-2
 before-requires-2 c κs = search needs
 
 returns : tie.Need-returns
-unfolding xtensionCheck bytes
+unfolding required bytes
 returns c = rw (c .before3 .ensures, c .before .before2 .ensures, c .before .before .check6 .ensures, c .before .before .before .check5 .ensures, c .before .before .before .before .is-string .ensures, c .before .before .before .before .before .check4 .ensures, c .before .before .before .before .before .before .same-bytes .ensures, c .before .before .before .before .before .before .before .before .text-of .ensures, c .before .before .before .before .before .before .before .before .before .value-of .ensures) (first-three _ _ _)
 
 pub check-xtension-spec : {M : Type 1} → statement M

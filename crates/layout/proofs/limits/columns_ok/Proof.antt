@@ -1,9 +1,12 @@
 -- `columns_ok` meets its contract. The loop's invariant: the columns are in order just where those that are left are.
 -- Assumes nothing.
 use mathlib.Core.Path.{_≡_, refl, sym, _∙_, ap}
+use mathlib.Core.Bool.{true}
 use Prim.Native.Nat.{ℕ, _+_, _-_, _*_, _≤_, _<_}
 use native.Mathlib.Omega.{arith}
 use lib.ListN.{length, drop, getD, length-map, length-take}
+use borrow.Author.Tests.{not-true, not-false}
+use Rattle.tform.specs.Width.{countOk}
 use Rattle.layout.specs.Layout.{noColumn, columnsOk, columnsOf}
 use Rattle.layout.proofs.Named.{column-at}
 use Rattle.layout.proofs.Ok.{column-limit, ok-next, ok-count, ok-start, ok-end}
@@ -25,9 +28,12 @@ columns c =
 inside : (c : tie.In-loop Inv-loop μ-loop) → c .before .loop .i < length (columnsOf (c .before .before .args .t1))
 inside c = omega (arith, columns (c .before .before), c .loop-test .taken)
 
--- the bytes of the column
-width : (c : tie.After-field-bytes Inv-loop μ-loop) → c .field-bytes .result ≤ 134217744
-width c = omega (arith, c .field-bytes .ensures, column-limit (getD (c .before .before .before .before .before .before .before .before .args .t1 .columns) (c .before .before .before .before .before .before .before .loop .i) noColumn) (c .before .before .before .if1 .left))
+-- the column's count and bytes
+count : (c : tie.After-num-bytes-field Inv-loop μ-loop) → countOk ((getD (c .before .before .before .before .before .before .before .before .args .t1 .columns) (c .before .before .before .before .before .before .before .loop .i) noColumn) .form) ((getD (c .before .before .before .before .before .before .before .before .args .t1 .columns) (c .before .before .before .before .before .before .before .loop .i) noColumn) .count) ≡ true
+count c = sym (c .before .before .before .before .count-ok .ensures) ∙ not-false _ (c .before .before .before .if1 .left)
+
+width : (c : tie.After-num-bytes-field Inv-loop μ-loop) → c .num-bytes-field .result ≤ 134217744
+width c = omega (arith, c .num-bytes-field .ensures, column-limit (getD (c .before .before .before .before .before .before .before .before .args .t1 .columns) (c .before .before .before .before .before .before .before .loop .i) noColumn) (count c))
 
 loop-holds : tie.Need-loop-holds Inv-loop μ-loop
 loop-holds c = (omega arith, (omega arith, refl))
@@ -38,14 +44,17 @@ mul-column c = search needs
 element-copy-out-column : tie.Need-element-copy-out-column Inv-loop μ-loop
 element-copy-out-column c = search needs
 
+count-ok-requires : tie.Need-count-ok-requires Inv-loop μ-loop
+count-ok-requires c κs = search needs
+
 returns : tie.Need-returns Inv-loop μ-loop
-returns c = sym (c .before .before .before .before .loop .inv .1 .1 ∙ ok-count _ _ (columnsOf (c .before .before .before .before .before .args .t1)) (c .before .before .before .before .loop .i) _ (inside (c .before .before .before)) (column-at (c .before .before .before .before .before .args .t1) (c .before .before .before .before .loop .i) (c .before .before .before .loop-test .taken)) (c .if1 .taken))
+returns c = sym (c .before .before .before .before .loop .inv .1 .1 ∙ ok-count _ _ (columnsOf (c .before .before .before .before .before .args .t1)) (c .before .before .before .before .loop .i) _ (inside (c .before .before .before)) (column-at (c .before .before .before .before .before .args .t1) (c .before .before .before .before .loop .i) (c .before .before .before .loop-test .taken)) (sym (c .before .count-ok .ensures) ∙ not-true _ (c .if1 .taken)))
 
 returns-2 : tie.Need-returns-2 Inv-loop μ-loop
 returns-2 c = sym (c .before .before .before .before .before .before .loop .inv .1 .1 ∙ ok-start _ _ (columnsOf (c .before .before .before .before .before .before .before .args .t1)) (c .before .before .before .before .before .before .loop .i) _ (inside (c .before .before .before .before .before)) (column-at (c .before .before .before .before .before .before .before .args .t1) (c .before .before .before .before .before .before .loop .i) (c .before .before .before .before .before .loop-test .taken)) (c .if2 .taken))
 
-field-bytes-requires : tie.Need-field-bytes-requires Inv-loop μ-loop
-field-bytes-requires c κs = search needs
+num-bytes-field-requires : tie.Need-num-bytes-field-requires Inv-loop μ-loop
+num-bytes-field-requires c κs = search needs
 
 add-at : tie.Need-add-at Inv-loop μ-loop
 add-at c = omega (arith, width c, c .before .before .before .before .before .before .before .loop .inv .1 .0, c .before .before .before .before .before .before .loop-test .taken, c .before .before .before .before .before .before .before .before .pre)
@@ -57,7 +66,7 @@ loop-less : tie.Need-loop-less Inv-loop μ-loop
 loop-less c = search needs
 
 loop-again : tie.Need-loop-again Inv-loop μ-loop
-loop-again c = (omega arith, (omega (arith, width c, c .before .before .before .before .before .before .before .loop .inv .1 .0), c .before .before .before .before .before .before .before .loop .inv .1 .1 ∙ (ok-next _ _ (columnsOf (c .before .before .before .before .before .before .before .before .args .t1)) (c .before .before .before .before .before .before .before .loop .i) _ (inside (c .before .before .before .before .before .before)) (column-at (c .before .before .before .before .before .before .before .before .args .t1) (c .before .before .before .before .before .before .before .loop .i) (c .before .before .before .before .before .before .loop-test .taken)) (c .before .before .before .if1 .left) (c .before .if2 .left) ∙ ap (λ (w : ℕ). columnsOk (c .before .before .before .before .before .before .before .before .args .t1 .naxis1) (c .before .before .before .before .before .before .before .loop .at + w) (drop (c .before .before .before .before .before .before .before .loop .i + 1) (columnsOf (c .before .before .before .before .before .before .before .before .args .t1)))) (sym (c .field-bytes .ensures)))))
+loop-again c = (omega arith, (omega (arith, width c, c .before .before .before .before .before .before .before .loop .inv .1 .0), c .before .before .before .before .before .before .before .loop .inv .1 .1 ∙ (ok-next _ _ (columnsOf (c .before .before .before .before .before .before .before .before .args .t1)) (c .before .before .before .before .before .before .before .loop .i) _ (inside (c .before .before .before .before .before .before)) (column-at (c .before .before .before .before .before .before .before .before .args .t1) (c .before .before .before .before .before .before .before .loop .i) (c .before .before .before .before .before .before .loop-test .taken)) (count c) (c .before .if2 .left) ∙ ap (λ (w : ℕ). columnsOk (c .before .before .before .before .before .before .before .before .args .t1 .naxis1) (c .before .before .before .before .before .before .before .loop .at + w) (drop (c .before .before .before .before .before .before .before .loop .i + 1) (columnsOf (c .before .before .before .before .before .before .before .before .args .t1)))) (sym (c .num-bytes-field .ensures)))))
 
 returns-3 : tie.Need-returns-3 Inv-loop μ-loop
 returns-3 c = sym (c .before .loop .inv .1 .1 ∙ ok-end _ _ (columnsOf (c .before .before .args .t1)) (c .before .loop .i) (omega (arith, columns (c .before .before), c .loop-test .left)))
@@ -71,9 +80,10 @@ columns-ok-spec =
     loop-holds
     mul-column
     element-copy-out-column
+    count-ok-requires
     returns
     returns-2
-    field-bytes-requires
+    num-bytes-field-requires
     add-at
     add-i
     loop-less

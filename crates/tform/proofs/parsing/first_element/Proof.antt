@@ -1,6 +1,6 @@
 -- `first_element` meets its contract.
 -- Assumes nothing.
-use Rattle.tform.proofs.Typed.{element-none, element-some}
+use Rattle.tform.proofs.Letters.{element-none, element-some}
 use mathlib.Core.Path.{_∙_}
 use borrow.Author.Needs.{needs}
 use Rattle.tform.proofs.parsing.first_element.Statement.{statement}

@@ -1,8 +1,8 @@
--- `p_form` meets its contract.
+-- `q_kind` meets its contract.
 -- Assumes nothing.
 use borrow.Author.Needs.{needs}
-use Rattle.tform.proofs.parsing.p_form.Statement.{statement}
-use Rattle.tform.proofs.parsing.p_form.Tie as tie
+use Rattle.tform.proofs.parsing.q_kind.Statement.{statement}
+use Rattle.tform.proofs.parsing.q_kind.Tie as tie
 
 enum-known-element : tie.Need-enum-known-element
 enum-known-element c = search needs
@@ -16,5 +16,5 @@ returns c = rw (c .before .element .given .1)
 returns-2 : tie.Need-returns-2
 returns-2 c = search needs
 
-pub p-form-spec : {M : Type 1} → statement M
-p-form-spec = tie.close (tie.spec enum-known-element enum-told returns returns-2)
+pub q-kind-spec : {M : Type 1} → statement M
+q-kind-spec = tie.close (tie.spec enum-known-element enum-told returns returns-2)

@@ -1,4 +1,4 @@
--- `field_bytes` meets its contract. The product fits: a count has 32 bits and a width is at most 16.
+-- `num_bytes_field` meets its contract. The product fits: a count has 32 bits and a width is at most 16.
 -- Assumes nothing.
 use native.Mathlib.Omega.{arith}
 use mathlib.Core.Path.{_≡_}
@@ -6,8 +6,8 @@ use Rattle.tform.specs.Width.{fieldBytes}
 use Rattle.tform.proofs.Widths.{field-bytes-bound}
 use Prim.Native.Nat.{_*_}
 use borrow.Author.Needs.{needs}
-use Rattle.tform.proofs.field_bytes.Statement.{statement}
-use Rattle.tform.proofs.field_bytes.Tie as tie
+use Rattle.tform.proofs.num_bytes_field.Statement.{statement}
+use Rattle.tform.proofs.num_bytes_field.Tie as tie
 
 field-items-requires : tie.Need-field-items-requires
 field-items-requires c κs = search needs
@@ -30,8 +30,8 @@ mul-result c = omega (arith, product c, field-bytes-bound (c .before .before .be
 returns : tie.Need-returns
 returns c = product c
 
-pub field-bytes-spec : {M : Type 1} → statement M
-field-bytes-spec =
+pub num-bytes-field-spec : {M : Type 1} → statement M
+num-bytes-field-spec =
     tie.close
     (tie.spec
     field-items-requires

@@ -1,8 +1,8 @@
--- `is_reached` meets its contract.
+-- `in_header` meets its contract.
 -- Assumes nothing.
 use borrow.Author.Needs.{needs}
-use Rattle.layout.proofs.ttype.is_reached.Statement.{statement}
-use Rattle.layout.proofs.ttype.is_reached.Tie as tie
+use Rattle.layout.proofs.ttype.in_header.Statement.{statement}
+use Rattle.layout.proofs.ttype.in_header.Tie as tie
 
 enum-told : tie.Need-enum-told
 enum-told c = search needs
@@ -25,7 +25,7 @@ returns c = search needs
 returns-2 : tie.Need-returns-2
 returns-2 c = rw (c .before .name .given .1)
 
-pub is-reached-spec : {M : Type 1} → statement M
-is-reached-spec =
+pub in-header-spec : {M : Type 1} → statement M
+in-header-spec =
     tie.close
     (tie.spec enum-told enum-known-name cast-result cast-result-2 add-result returns returns-2)

@@ -1,8 +1,8 @@
--- `q_form` meets its contract.
+-- `p_kind` meets its contract.
 -- Assumes nothing.
 use borrow.Author.Needs.{needs}
-use Rattle.tform.proofs.parsing.q_form.Statement.{statement}
-use Rattle.tform.proofs.parsing.q_form.Tie as tie
+use Rattle.tform.proofs.parsing.p_kind.Statement.{statement}
+use Rattle.tform.proofs.parsing.p_kind.Tie as tie
 
 enum-known-element : tie.Need-enum-known-element
 enum-known-element c = search needs
@@ -16,5 +16,5 @@ returns c = rw (c .before .element .given .1)
 returns-2 : tie.Need-returns-2
 returns-2 c = search needs
 
-pub q-form-spec : {M : Type 1} → statement M
-q-form-spec = tie.close (tie.spec enum-known-element enum-told returns returns-2)
+pub p-kind-spec : {M : Type 1} → statement M
+p-kind-spec = tie.close (tie.spec enum-known-element enum-told returns returns-2)

@@ -1,15 +1,16 @@
--- `typed` meets its contract.
+-- `kind_of` meets its contract.
 -- Assumes nothing.
+use Rattle.tform.specs.declared.TFormType.the-variants.{Items, P, Q}
 use mathlib.Core.Path.{_∙_, ap}
 use Rattle.card.proofs.Parts.{part-from}
-use Rattle.tform.specs.Form.{firstElement, itemsForm, pForm, qForm}
-use Rattle.tform.proofs.Typed.{typed-none, typed-p, typed-q, typed-items}
+use Rattle.tform.specs.Form.{firstElement, kindWith}
+use Rattle.tform.proofs.Letters.{kind-none, kind-p, kind-q, kind-items}
 use borrow.Author.Needs.{needs}
-use Rattle.tform.proofs.parsing.typed.Statement.{statement}
-use Rattle.tform.proofs.parsing.typed.Tie as tie
+use Rattle.tform.proofs.parsing.kind_of.Statement.{statement}
+use Rattle.tform.proofs.parsing.kind_of.Tie as tie
 
 returns : tie.Need-returns
-returns c = typed-none _ _ (c .if1 .taken)
+returns c = kind-none _ (c .if1 .taken)
 
 shared-slice-read-if2 : tie.Need-shared-slice-read-if2
 shared-slice-read-if2 c = search needs
@@ -26,11 +27,11 @@ part-first-element-end c = search needs
 first-element-requires : tie.Need-first-element-requires
 first-element-requires c κs = search needs
 
-p-form-requires : tie.Need-p-form-requires
-p-form-requires c κs = search needs
+p-kind-requires : tie.Need-p-kind-requires
+p-kind-requires c κs = search needs
 
 returns-2 : tie.Need-returns-2
-returns-2 c = c .p-form .ensures ∙ ap (pForm _) (c .before .first-element .ensures ∙ ap firstElement (part-from (c .before .before .before .before .before .before .before .args .text .now) 1)) ∙ typed-p _ _ (c .before .before .before .before .before .if1 .left) (c .before .before .before .if2 .taken)
+returns-2 c = c .p-kind .ensures ∙ ap (kindWith P) (c .before .first-element .ensures ∙ ap firstElement (part-from (c .before .before .before .before .before .before .before .args .text .now) 1)) ∙ kind-p _ (c .before .before .before .before .before .if1 .left) (c .before .before .before .if2 .taken)
 
 shared-slice-read-if3 : tie.Need-shared-slice-read-if3
 shared-slice-read-if3 c = search needs
@@ -47,11 +48,11 @@ part-first-element-end-2 c = search needs
 first-element-requires-2 : tie.Need-first-element-requires-2
 first-element-requires-2 c κs = search needs
 
-q-form-requires : tie.Need-q-form-requires
-q-form-requires c κs = search needs
+q-kind-requires : tie.Need-q-kind-requires
+q-kind-requires c κs = search needs
 
 returns-3 : tie.Need-returns-3
-returns-3 c = c .q-form .ensures ∙ ap (qForm _) (c .before .first-element2 .ensures ∙ ap firstElement (part-from (c .before .before .before .before .before .before .before .before .before .args .text .now) 1)) ∙ typed-q _ _ (c .before .before .before .before .before .before .before .if1 .left) (c .before .before .before .if3 .taken)
+returns-3 c = c .q-kind .ensures ∙ ap (kindWith Q) (c .before .first-element2 .ensures ∙ ap firstElement (part-from (c .before .before .before .before .before .before .before .before .before .args .text .now) 1)) ∙ kind-q _ (c .before .before .before .before .before .before .before .if1 .left) (c .before .before .before .if3 .taken)
 
 shared-slice-read-element-of : tie.Need-shared-slice-read-element-of
 shared-slice-read-element-of c = search needs
@@ -59,14 +60,14 @@ shared-slice-read-element-of c = search needs
 element-of-requires : tie.Need-element-of-requires
 element-of-requires c κs = search needs
 
-items-form-requires : tie.Need-items-form-requires
-items-form-requires c κs = search needs
+items-kind-requires : tie.Need-items-kind-requires
+items-kind-requires c κs = search needs
 
 returns-4 : tie.Need-returns-4
-returns-4 c = c .items-form .ensures ∙ ap (itemsForm _) (c .before .element-of .ensures) ∙ typed-items _ _ (c .before .before .before .before .before .before .before .if1 .left) (c .before .before .before .before .before .if2 .left) (c .before .before .before .if3 .left)
+returns-4 c = c .items-kind .ensures ∙ ap (kindWith Items) (c .before .element-of .ensures) ∙ kind-items _ (c .before .before .before .before .before .before .before .if1 .left) (c .before .before .before .before .before .if2 .left) (c .before .before .before .if3 .left)
 
-pub typed-spec : {M : Type 1} → statement M
-typed-spec =
+pub kind-of-spec : {M : Type 1} → statement M
+kind-of-spec =
     tie.close
     (tie.spec
     returns
@@ -75,16 +76,16 @@ typed-spec =
     part-first-element-start
     part-first-element-end
     first-element-requires
-    p-form-requires
+    p-kind-requires
     returns-2
     shared-slice-read-if3
     sub-first-element-2
     part-first-element-start-2
     part-first-element-end-2
     first-element-requires-2
-    q-form-requires
+    q-kind-requires
     returns-3
     shared-slice-read-element-of
     element-of-requires
-    items-form-requires
+    items-kind-requires
     returns-4)
