@@ -1,4 +1,4 @@
--- What the tests of a value and the checks of a record come to.
+-- The tests of a value, and the first refusal of several checks.
 -- Assumes nothing.
 use mathlib.Core.Path.{_≡_, refl}
 use mathlib.Core.Bool.{true, false}

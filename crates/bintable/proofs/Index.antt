@@ -1,4 +1,4 @@
--- What the header's index says of each name.
+-- The record that the header's index has for each name.
 -- Assumes nothing.
 use mathlib.Core.Path.{_≡_, _∙_, ap}
 use mathlib.Core.List.{List, []}

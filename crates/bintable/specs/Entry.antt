@@ -1,4 +1,4 @@
--- The entry (FORMAT.md, sections 8 and 10; the standard, 7.3.1, 7.3.2 and 7.3.5): what a header and a data area come to, the layout or one refusal.
+-- The entry (FORMAT.md, sections 8 and 10; the standard, 7.3.1, 7.3.2 and 7.3.5): for a header and a data area, the layout or one refusal.
 -- Assumes nothing.
 use Prim.Native.Nat.{ℕ, zero, suc, _+_, _-_, _*_}
 use mathlib.Core.List.{List, [], _∷_, _++_, map}
@@ -143,7 +143,7 @@ pub data Entry : Type 0 where
   accepted : BinTable → Entry
   refused : ℕ → ℕ → Entry
 
--- what the checks come to, with the layout
+-- the layout where the checks accept
 abbrev pub entryBy : Outcome → BinTable → Entry
 entryBy O.accepted l = accepted l
 entryBy (O.refused number place) l = refused number place

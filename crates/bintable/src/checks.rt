@@ -82,7 +82,7 @@ fn magnitude(n: i64) -> u64
     n as u64
 }
 
-// The number that a value says, 0 where it says none or a negative one.
+// The number of a value, 0 where it is none or negative.
 pub fn size(value: Value) -> u64
     ensures { λ r. ⌜ r ≡ sizeIn value ⌝ }
 {
@@ -93,7 +93,7 @@ pub fn size(value: Value) -> u64
     }
 }
 
-// The number that a record says.
+// The number of a record's value.
 pub fn size_of(header: &[u8], found: Found) -> u64
     ensures { λ r. ⌜ r ≡ sizeIn (valueAt (now (header .entry)) found) ⌝ }
 {

@@ -1,4 +1,4 @@
-// The entry: what a header and a data area come to, the layout of a table or a refusal.
+// The entry: for a header and a data area, the layout of a table or a refusal.
 mod checks;
 mod columns;
 mod keywords;

@@ -58,7 +58,7 @@ width-bound b =
     (λ e. by-test (λ (n : ℕ). n ≤ 16) (among b (bytes "KDCP")) (λ e. omega arith)
     (λ e. by-test (λ (n : ℕ). n ≤ 16) (among b (bytes "MQ")) (λ e. omega arith) (λ e. omega arith)))))
 
--- at most the count, and one where that is 0
+-- at most the count; of a field one more, for a descriptor at count 0
 pub items-bound : (e : VariableArrayTy) (n : ℕ) → items e n ≤ n
 items-bound L n = omega arith
 items-bound X n = omega arith

@@ -12,7 +12,7 @@ use Rattle.layout.proofs.find_field_by_ttype.Statement.{statement}
 use Rattle.layout.proofs.find_field_by_ttype.Tie as tie
 
 abbrev Inv-loop : tie.InvT-loop
-Inv-loop header name layout count i₀ i = (i ≤ count) × (findName header layout name ≡ firstNamed header name i (drop i (columnsOf layout)))
+Inv-loop header name layout count i₀ i = findName header layout name ≡ firstNamed header name i (drop i (columnsOf layout))
 
 abbrev μ-loop : tie.MeasureT-loop
 μ-loop header name layout count i₀ i = count - i
@@ -34,7 +34,7 @@ column-count-requires c κs = search needs
 
 loop-holds : tie.Need-loop-holds Inv-loop μ-loop
 unfolding findName
-loop-holds c = (omega arith, refl)
+loop-holds c = refl
 
 mul-column : tie.Need-mul-column Inv-loop μ-loop
 mul-column c = omega (arith, c .before .before .column-count .ensures)
@@ -46,7 +46,7 @@ has-name-requires : tie.Need-has-name-requires Inv-loop μ-loop
 has-name-requires c κs = search needs
 
 returns : tie.Need-returns Inv-loop μ-loop
-returns c = named-here (c .before .before .before .before .before .before .before .before .args .header .now) (c .before .before .before .before .before .before .before .before .args .name .now) (columnsOf (c .before .before .before .before .before .before .before .before .args .t2)) (c .before .before .before .before .loop .i) (inside (c .before .before .before) .0) (sym (here (c .before)) ∙ c .if1 .taken) ∙ sym (c .before .before .before .before .loop .inv .1)
+returns c = named-here (c .before .before .before .before .before .before .before .before .args .header .now) (c .before .before .before .before .before .before .before .before .args .name .now) (columnsOf (c .before .before .before .before .before .before .before .before .args .t2)) (c .before .before .before .before .loop .i) (inside (c .before .before .before) .0) (sym (here (c .before)) ∙ c .if1 .taken) ∙ sym (c .before .before .before .before .loop .inv)
 
 add-i : tie.Need-add-i Inv-loop μ-loop
 add-i c = search needs
@@ -55,10 +55,10 @@ loop-less : tie.Need-loop-less Inv-loop μ-loop
 loop-less c = search needs
 
 loop-again : tie.Need-loop-again Inv-loop μ-loop
-loop-again c = (omega arith, c .before .before .before .before .loop .inv .1 ∙ named-later (c .before .before .before .before .before .before .before .before .args .header .now) (c .before .before .before .before .before .before .before .before .args .name .now) (columnsOf (c .before .before .before .before .before .before .before .before .args .t2)) (c .before .before .before .before .loop .i) (inside (c .before .before .before) .0) (sym (here (c .before)) ∙ c .if1 .left))
+loop-again c = c .before .before .before .before .loop .inv ∙ named-later (c .before .before .before .before .before .before .before .before .args .header .now) (c .before .before .before .before .before .before .before .before .args .name .now) (columnsOf (c .before .before .before .before .before .before .before .before .args .t2)) (c .before .before .before .before .loop .i) (inside (c .before .before .before) .0) (sym (here (c .before)) ∙ c .if1 .left)
 
 returns-2 : tie.Need-returns-2 Inv-loop μ-loop
-returns-2 c = named-none (c .before .before .before .before .before .args .header .now) (c .before .before .before .before .before .args .name .now) (columnsOf (c .before .before .before .before .before .args .t2)) (c .before .loop .i) (omega (arith, columns (c .before .before), c .loop-test .left)) ∙ sym (c .before .loop .inv .1)
+returns-2 c = named-none (c .before .before .before .before .before .args .header .now) (c .before .before .before .before .before .args .name .now) (columnsOf (c .before .before .before .before .before .args .t2)) (c .before .loop .i) (omega (arith, columns (c .before .before), c .loop-test .left)) ∙ sym (c .before .loop .inv)
 
 pub find-field-by-ttype-spec : {M : Type 1} → statement M
 find-field-by-ttype-spec =
