@@ -1,3 +1,4 @@
 pub mod Quotes
 pub mod Named
 pub mod Ok
+pub mod Decided

@@ -42,10 +42,16 @@ slice-aggregate-parse-table : tie.Need-slice-aggregate-parse-table
 slice-aggregate-parse-table c = search needs
 
 parse-table-requires : tie.Need-parse-table-requires
-parse-table-requires c κs = (c .before .before .before .before .before .before .before .before .parse .ensures .1 .0, both-accepted (checked (c .before .before .before .before .before .before .before .before .before .before .before .args .header .now)) (nineChecks (c .before .before .before .before .before .before .before .before .before .before .before .args .header .now)) (sym (whole (c .before .before .before)) ∙ ap outcomeOf (c .before .enum-told .given .1)))
+parse-table-requires c κs =
+    let s = c .before .before .before .before .before .before .before .before .before .before .before in (
+      c .before .before .before .before .before .before .before .before .parse .ensures .1 .0,
+      both-accepted (checked (s .args .header .now)) (nineChecks (s .args .header .now)) (sym (whole (c .before .before .before)) ∙ ap outcomeOf (c .before .enum-told .given .1)),
+    )
 
 returns : tie.Need-returns
-returns c = let e = entry-parts (c .before .before .before .before .before .before .before .before .before .before .before .before .args .header .now) (c .before .before .before .before .before .before .before .before .before .before .before .before .args .area .now) in let w = whole (c .before .before .before .before) in
+returns c =
+    let s = c .before .before .before .before .before .before .before .before .before .before .before .before in
+    let e = entry-parts (s .args .header .now) (s .args .area .now) in let w = whole (c .before .before .before .before) in
     (rw (e, ← w, c .before .before .check .given .1, c .refused .ensures .0), rw (e, ← w, c .before .before .check .given .1) (c .refused .ensures .1))
 
 returns-2 : tie.Need-returns-2

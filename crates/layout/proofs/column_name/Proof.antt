@@ -33,7 +33,11 @@ part-result-end-2 : tie.Need-part-result-end-2
 part-result-end-2 c = search needs
 
 returns-2 : tie.Need-returns-2
-returns-2 c = name-past _ (c .before .before .before .before .args .t2) (c .before .before .before .before .args .column) (omega (arith, columns (c .before .before .before .before), c .before .if2 .taken))
+returns-2 c = name-past _ (c .before .before .before .before .args .t2) (c .before .before .before .before .args .column) (omega (
+  arith,
+  columns (c .before .before .before .before),
+  c .before .if2 .taken,
+))
 
 mul-found : tie.Need-mul-found
 mul-found c = search needs

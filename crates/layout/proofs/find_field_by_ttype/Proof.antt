@@ -46,7 +46,9 @@ has-name-requires : tie.Need-has-name-requires Inv-loop μ-loop
 has-name-requires c κs = search needs
 
 returns : tie.Need-returns Inv-loop μ-loop
-returns c = named-here (c .before .before .before .before .before .before .before .before .args .header .now) (c .before .before .before .before .before .before .before .before .args .name .now) (columnsOf (c .before .before .before .before .before .before .before .before .args .t2)) (c .before .before .before .before .loop .i) (inside (c .before .before .before) .0) (sym (here (c .before)) ∙ c .if1 .taken) ∙ sym (c .before .before .before .before .loop .inv)
+returns c =
+    let s = c .before .before .before .before .before .before .before .before in
+    named-here (s .args .header .now) (s .args .name .now) (columnsOf (s .args .t2)) (c .before .before .before .before .loop .i) (inside (c .before .before .before) .0) (sym (here (c .before)) ∙ c .if1 .taken) ∙ sym (c .before .before .before .before .loop .inv)
 
 add-i : tie.Need-add-i Inv-loop μ-loop
 add-i c = search needs
@@ -55,10 +57,14 @@ loop-less : tie.Need-loop-less Inv-loop μ-loop
 loop-less c = search needs
 
 loop-again : tie.Need-loop-again Inv-loop μ-loop
-loop-again c = c .before .before .before .before .loop .inv ∙ named-later (c .before .before .before .before .before .before .before .before .args .header .now) (c .before .before .before .before .before .before .before .before .args .name .now) (columnsOf (c .before .before .before .before .before .before .before .before .args .t2)) (c .before .before .before .before .loop .i) (inside (c .before .before .before) .0) (sym (here (c .before)) ∙ c .if1 .left)
+loop-again c =
+    let s = c .before .before .before .before .before .before .before .before in
+    c .before .before .before .before .loop .inv ∙ named-later (s .args .header .now) (s .args .name .now) (columnsOf (s .args .t2)) (c .before .before .before .before .loop .i) (inside (c .before .before .before) .0) (sym (here (c .before)) ∙ c .if1 .left)
 
 returns-2 : tie.Need-returns-2 Inv-loop μ-loop
-returns-2 c = named-none (c .before .before .before .before .before .args .header .now) (c .before .before .before .before .before .args .name .now) (columnsOf (c .before .before .before .before .before .args .t2)) (c .before .loop .i) (omega (arith, columns (c .before .before), c .loop-test .left)) ∙ sym (c .before .loop .inv)
+returns-2 c =
+    let s = c .before .before .before .before .before in
+    named-none (s .args .header .now) (s .args .name .now) (columnsOf (s .args .t2)) (c .before .loop .i) (omega (arith, columns (c .before .before), c .loop-test .left)) ∙ sym (c .before .loop .inv)
 
 pub find-field-by-ttype-spec : {M : Type 1} → statement M
 find-field-by-ttype-spec =

@@ -25,28 +25,53 @@ returns-3 c = rw (le-leb _ _ (c .before .before .before .before .if1 .left), le-
 
 returns-4 : tie.Need-returns-4
 unfolding layoutOk
-returns-4 c = rw (le-leb _ _ (c .before .before .before .before .before .before .if1 .left), le-leb _ _ (c .before .before .before .before .if2 .left), le-leb _ _ (c .before .before .if3 .left), lt-leb _ _ (c .if4 .taken))
+returns-4 c = rw (
+  le-leb _ _ (c .before .before .before .before .before .before .if1 .left),
+  le-leb _ _ (c .before .before .before .before .if2 .left),
+  le-leb _ _ (c .before .before .if3 .left),
+  lt-leb _ _ (c .if4 .taken),
+)
 
 mul-main : tie.Need-mul-main
 mul-main c = omega (arith, main c)
 
 returns-5 : tie.Need-returns-5
 unfolding layoutOk
-returns-5 c = rw (le-leb _ _ (c .before .before .before .before .before .before .before .before .before .if1 .left), le-leb _ _ (c .before .before .before .before .before .before .before .if2 .left), le-leb _ _ (c .before .before .before .before .before .if3 .left), le-leb _ _ (c .before .before .before .if4 .left), lt-leb _ _ (c .if5 .taken))
+returns-5 c = rw (
+  le-leb _ _ (c .before .before .before .before .before .before .before .before .before .if1 .left),
+  le-leb _ _ (c .before .before .before .before .before .before .before .if2 .left),
+  le-leb _ _ (c .before .before .before .before .before .if3 .left),
+  le-leb _ _ (c .before .before .before .if4 .left),
+  lt-leb _ _ (c .if5 .taken),
+)
 
 add-if6 : tie.Need-add-if6
 add-if6 c = omega (arith, main (c .before .before .before), c .before .before .before .before .before .before .if3 .left)
 
 returns-6 : tie.Need-returns-6
 unfolding layoutOk
-returns-6 c = rw (le-leb _ _ (c .before .before .before .before .before .before .before .before .before .before .before .before .if1 .left), le-leb _ _ (c .before .before .before .before .before .before .before .before .before .before .if2 .left), le-leb _ _ (c .before .before .before .before .before .before .before .before .if3 .left), le-leb _ _ (c .before .before .before .before .before .before .if4 .left), le-leb _ _ (c .before .before .before .if5 .left), lt-leb _ _ (c .if6 .taken))
+returns-6 c = rw (
+  le-leb _ _ (c .before .before .before .before .before .before .before .before .before .before .before .before .if1 .left),
+  le-leb _ _ (c .before .before .before .before .before .before .before .before .before .before .if2 .left),
+  le-leb _ _ (c .before .before .before .before .before .before .before .before .if3 .left),
+  le-leb _ _ (c .before .before .before .before .before .before .if4 .left),
+  le-leb _ _ (c .before .before .before .if5 .left),
+  lt-leb _ _ (c .if6 .taken),
+)
 
 columns-ok-requires : tie.Need-columns-ok-requires
 columns-ok-requires c κs = c .before .before .before .before .before .before .if4 .left
 
 returns-7 : tie.Need-returns-7
 unfolding layoutOk
-returns-7 c = rw (le-leb _ _ (c .before .before .before .before .before .before .before .before .before .before .before .before .before .if1 .left), le-leb _ _ (c .before .before .before .before .before .before .before .before .before .before .before .if2 .left), le-leb _ _ (c .before .before .before .before .before .before .before .before .before .if3 .left), le-leb _ _ (c .before .before .before .before .before .before .before .if4 .left), le-leb _ _ (c .before .before .before .before .if5 .left), le-leb _ _ (c .before .if6 .left)) (c .columns-ok .ensures)
+returns-7 c = rw (
+  le-leb _ _ (c .before .before .before .before .before .before .before .before .before .before .before .before .before .if1 .left),
+  le-leb _ _ (c .before .before .before .before .before .before .before .before .before .before .before .if2 .left),
+  le-leb _ _ (c .before .before .before .before .before .before .before .before .before .if3 .left),
+  le-leb _ _ (c .before .before .before .before .before .before .before .if4 .left),
+  le-leb _ _ (c .before .before .before .before .if5 .left),
+  le-leb _ _ (c .before .if6 .left),
+) (c .columns-ok .ensures)
 
 pub layout-ok-spec : {M : Type 1} → statement M
 layout-ok-spec =

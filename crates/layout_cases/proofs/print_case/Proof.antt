@@ -13,7 +13,13 @@ use Rattle.layout_cases.proofs.print_case.Tie as tie
 left : (c : tie.Else3) → c .before .before .before .before .before .number-of .result + 4 + c .before .print-rest .result ≤ length (c .before .before .before .before .before .before .before .before .before .before .args .bytes .now)
 left c =
     let n = c .before .before .before .before .before .number-of .result + 4 in
-    let e = ap length (part-from (c .before .before .before .before .before .before .before .before .before .before .args .bytes .now) n) ∙ length-drop n (c .before .before .before .before .before .before .before .before .before .before .args .bytes .now) in omega (arith, e, c .before .print-rest .ensures, c .before .before .before .before .if2 .left)
+    let e = ap length (part-from (c .before .before .before .before .before .before .before .before .before .before .args .bytes .now) n)
+    ∙ length-drop n (c .before .before .before .before .before .before .before .before .before .before .args .bytes .now) in omega (
+      arith,
+      e,
+      c .before .print-rest .ensures,
+      c .before .before .before .before .if2 .left,
+    )
 
 returns : tie.Need-returns
 returns c = search needs

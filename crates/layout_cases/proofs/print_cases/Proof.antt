@@ -18,7 +18,8 @@ abbrev μ-loop : tie.MeasureT-loop
 
 taken : (c : tie.Else1 Inv-loop μ-loop) → (c .before .before .before .before .loop .at + c .before .print-case .result ≤ length (c .before .before .before .before .before .before .before .args .file .now)) × (0 < c .before .print-case .result)
 taken c =
-    let n = c .before .before .before .before .loop .at in let e = ap length (part-from (c .before .before .before .before .before .before .before .args .file .now) n) ∙ length-drop n (c .before .before .before .before .before .before .before .args .file .now) in
+    let n = c .before .before .before .before .loop .at in let e = ap length (part-from (c .before .before .before .before .before .before .before .args .file .now) n)
+    ∙ length-drop n (c .before .before .before .before .before .before .before .args .file .now) in
     (omega (arith, e, c .before .print-case .ensures, c .before .before .before .before .loop .inv), lt-of-le-of-ne (omega arith) (λ e. c .if1 .left (sym e)))
 
 loop-holds : tie.Need-loop-holds Inv-loop μ-loop

@@ -12,7 +12,14 @@ use Rattle.layout_cases.proofs.print_rest.Tie as tie
 
 -- what is left after nine bytes
 left : (c : tie.After-names-len) → c .names-len .result + 9 ≤ length (c .before .before .before .before .before .before .before .before .before .before .before .before .before .args .rest .now)
-left c = let e = ap length (part-from (c .before .before .before .before .before .before .before .before .before .before .before .before .before .args .rest .now) 9) ∙ length-drop 9 (c .before .before .before .before .before .before .before .before .before .before .before .before .before .args .rest .now) in omega (arith, e, c .names-len .ensures, c .before .before .before .before .before .before .before .before .before .if1 .left)
+left c =
+    let s = c .before .before .before .before .before .before .before .before .before .before .before .before .before in
+    let e = ap length (part-from (s .args .rest .now) 9) ∙ length-drop 9 (s .args .rest .now) in omega (
+      arith,
+      e,
+      c .names-len .ensures,
+      c .before .before .before .before .before .before .before .before .before .if1 .left,
+    )
 
 returns : tie.Need-returns
 returns c = search needs
@@ -63,7 +70,9 @@ front-of-requires : tie.Need-front-of-requires
 front-of-requires c κs = search needs
 
 slice-aggregate-print-table-2 : tie.Need-slice-aggregate-print-table-2
-slice-aggregate-print-table-2 c = sym (length-take-le (c .before .before .before .names-len .result) (take (length (c .before .before .before .before .before .before .before .before .before .before .before .before .before .before .before .before .args .rest .now) - 9) (drop 9 (c .before .before .before .before .before .before .before .before .before .before .before .before .before .before .before .before .args .rest .now))) (c .before .before .before .names-len .ensures))
+slice-aggregate-print-table-2 c =
+    let s = c .before .before .before .before .before .before .before .before .before .before .before .before .before .before .before .before in
+    sym (length-take-le (c .before .before .before .names-len .result) (take (length (s .args .rest .now) - 9) (drop 9 (s .args .rest .now))) (c .before .before .before .names-len .ensures))
 
 print-table-requires : tie.Need-print-table-requires
 print-table-requires c κs = search needs

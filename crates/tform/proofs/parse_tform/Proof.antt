@@ -40,7 +40,15 @@ counted-requires : tie.Need-counted-requires
 counted-requires c κs = search needs
 
 returns : tie.Need-returns
-returns c = rw (c .counted .ensures, c .before .kind-of .ensures, part-from (c .before .before .before .before .before .before .args .text .now) (c .before .before .before .before .leading-digits .result), count (c .before .before .before), c .before .before .before .before .leading-digits .ensures) (form-capped (c .before .before .before .before .before .before .args .text .now))
+returns c =
+    let s = c .before .before .before .before .before .before in
+    rw (
+      c .counted .ensures,
+      c .before .kind-of .ensures,
+      part-from (s .args .text .now) (c .before .before .before .before .leading-digits .result),
+      count (c .before .before .before),
+      c .before .before .before .before .leading-digits .ensures,
+    ) (form-capped (s .args .text .now))
 
 pub parse-tform-spec : {M : Type 1} → statement M
 parse-tform-spec =

@@ -18,10 +18,19 @@ size-requires : tie.Need-size-requires
 size-requires c κs = search needs
 
 returns-2 : tie.Need-returns-2
-returns-2 c = within-low (c .before .before .before .before .args .low) _ (c .before .before .before .before .args .value) (sym (c .before .before .before .not-negative .ensures) ∙ not-false _ (c .before .before .if1 .left)) (omega (arith, c .before .size .ensures, c .if2 .taken))
+returns-2 c =
+    let s = c .before .before .before .before in
+    within-low (s .args .low) _ (s .args .value) (sym (c .before .before .before .not-negative .ensures) ∙ not-false _ (c .before .before .if1 .left)) (omega (
+      arith,
+      c .before .size .ensures,
+      c .if2 .taken,
+    ))
 
 returns-3 : tie.Need-returns-3
-returns-3 c = rw (c .before .size .ensures) (within-high (c .before .before .before .before .args .low) _ (c .before .before .before .before .args .value) (sym (c .before .before .before .not-negative .ensures) ∙ not-false _ (c .before .before .if1 .left)) (omega (arith, c .before .size .ensures, c .if2 .left)))
+returns-3 c =
+    let s = c .before .before .before .before in
+    rw (c .before .size .ensures) (within-high (s .args .low) _ (s .args .value) (sym (c .before .before .before .not-negative .ensures)
+    ∙ not-false _ (c .before .before .if1 .left)) (omega (arith, c .before .size .ensures, c .if2 .left)))
 
 pub is-within-spec : {M : Type 1} → statement M
 is-within-spec =

@@ -17,7 +17,17 @@ size c = rw (c .read-layout .ensures .1) (layout-size (c .before .before .before
 -- the checks in their order
 checks : (c : tie.After-before2) → outcomeOf (c .before2 .result) ≡ allChecks (c .before .before .before .before .before .before .before .before .before .args .header .now) (c .before .before .before .before .before .before .before .before .before .args .area .now)
 unfolding check10
-checks c = rw (c .before2 .ensures, c .before .check10 .ensures, c .before .before .before .before .before .read-layout .ensures .0, c .before .before .before .before .before .read-layout .ensures .1, entry-parts (c .before .before .before .before .before .before .before .before .before .args .header .now) (c .before .before .before .before .before .before .before .before .before .args .area .now), c .before .before .before .before .before .before .before .before .before .pre .1 .0, c .before .before .before .before .before .before .before .before .before .pre .1 .1)
+checks c =
+    let s = c .before .before .before .before .before .before .before .before .before in
+    rw (
+      c .before2 .ensures,
+      c .before .check10 .ensures,
+      c .before .before .before .before .before .read-layout .ensures .0,
+      c .before .before .before .before .before .read-layout .ensures .1,
+      entry-parts (s .args .header .now) (s .args .area .now),
+      s .pre .1 .0,
+      s .pre .1 .1,
+    )
 
 read-layout-requires : tie.Need-read-layout-requires
 read-layout-requires c κs = search needs

@@ -74,11 +74,47 @@ count-in-requires : tie.Need-count-in-requires
 count-in-requires c κs = search needs
 
 name-in-requires : tie.Need-name-in-requires
-name-in-requires c κs = λ a n e. value-fits (c .before .before .before .before .before .before .before .before .before .before .before .before .before .before .before .before .before .before .before .args .header .now) (c .before .before .before .before .before .before .before .before .before .before .before .before .before .before .before .record-of2 .result) (c .before .before .before .before .before .before .before .before .before .before .before .before .before .before .before .before .before .before .before .pre .1 .0) a n (sym (c .before .before .before .before .before .before .before .before .before .before .before .value-of2 .ensures) ∙ e)
+name-in-requires c κs =
+    let s = c .before .before .before .before .before .before .before .before .before .before .before .before .before .before .before .before .before .before .before in
+    λ a n e. value-fits (s .args .header .now) (c .before .before .before .before .before .before .before .before .before .before .before .before .before .before .before .record-of2 .result) (s .pre .1 .0) a n (sym (c .before .before .before .before .before .before .before .before .before .before .before .value-of2 .ensures) ∙ e)
 
 returns : tie.Need-returns
 unfolding columnCheck
-returns c = (rw (c .before .before .before .before4 .ensures, c .before .before .before .before .before3 .ensures, c .before .before .before .before .before .before2 .ensures, c .before .before .before .before .before .before .check52 .ensures, c .before .before .before .before .before .before .before .is-string2 .ensures, c .before .before .before .before .before .before .before .before .check8 .ensures, c .before .before .before .before .before .before .before .before .before .check5 .ensures, c .before .before .before .before .before .before .before .before .before .before .is-string .ensures, c .before .before .before .before .before .before .before .before .before .before .before .check4 .ensures, c .before .before .before .before .before .before .before .before .before .before .before .before .value-of2 .ensures, c .before .before .before .before .before .before .before .before .before .before .before .before .before .parse-tform .ensures, c .before .before .before .before .before .before .before .before .before .before .before .before .before .before .text-of .ensures, c .before .before .before .before .before .before .before .before .before .before .before .before .before .before .before .value-of .ensures, c .before .before .before .before .before .before .before .before .before .before .before .before .before .before .before .before .record-of2 .ensures, c .before .before .before .before .before .before .before .before .before .before .before .before .before .before .before .before .before .record-of .ensures, at-tform (c .before .before .before .before .before .before .before .before .before .before .before .before .before .before .before .before .before .before .before .before .args .header .now) (c .before .before .before .before .before .before .before .before .before .before .before .before .before .before .before .before .before .before .before .before .args .first .now) (c .before .before .before .before .before .before .before .before .before .before .before .before .before .before .before .before .before .before .before .before .pre .0) (c .before .before .before .before .before .before .before .before .before .before .before .before .before .before .before .before .before .before .before .before .args .i) (c .before .before .before .before .before .before .before .before .before .before .before .before .before .before .before .before .before .before .before .before .pre .1 .1), at-ttype (c .before .before .before .before .before .before .before .before .before .before .before .before .before .before .before .before .before .before .before .before .args .header .now) (c .before .before .before .before .before .before .before .before .before .before .before .before .before .before .before .before .before .before .before .before .args .first .now) (c .before .before .before .before .before .before .before .before .before .before .before .before .before .before .before .before .before .before .before .before .pre .0) (c .before .before .before .before .before .before .before .before .before .before .before .before .before .before .before .before .before .before .before .before .args .i) (c .before .before .before .before .before .before .before .before .before .before .before .before .before .before .before .before .before .before .before .before .pre .1 .1)) (first-four _ _ _ _), rw (c .name-in .ensures, c .before .count-in .ensures, c .before .before .type-in .ensures, c .before .before .before .before .before .before .before .before .before .before .before .before .value-of2 .ensures, c .before .before .before .before .before .before .before .before .before .before .before .before .before .parse-tform .ensures, c .before .before .before .before .before .before .before .before .before .before .before .before .before .before .text-of .ensures, c .before .before .before .before .before .before .before .before .before .before .before .before .before .before .before .value-of .ensures, c .before .before .before .before .before .before .before .before .before .before .before .before .before .before .before .before .record-of2 .ensures, c .before .before .before .before .before .before .before .before .before .before .before .before .before .before .before .before .before .record-of .ensures, at-tform (c .before .before .before .before .before .before .before .before .before .before .before .before .before .before .before .before .before .before .before .before .args .header .now) (c .before .before .before .before .before .before .before .before .before .before .before .before .before .before .before .before .before .before .before .before .args .first .now) (c .before .before .before .before .before .before .before .before .before .before .before .before .before .before .before .before .before .before .before .before .pre .0) (c .before .before .before .before .before .before .before .before .before .before .before .before .before .before .before .before .before .before .before .before .args .i) (c .before .before .before .before .before .before .before .before .before .before .before .before .before .before .before .before .before .before .before .before .pre .1 .1), at-ttype (c .before .before .before .before .before .before .before .before .before .before .before .before .before .before .before .before .before .before .before .before .args .header .now) (c .before .before .before .before .before .before .before .before .before .before .before .before .before .before .before .before .before .before .before .before .args .first .now) (c .before .before .before .before .before .before .before .before .before .before .before .before .before .before .before .before .before .before .before .before .pre .0) (c .before .before .before .before .before .before .before .before .before .before .before .before .before .before .before .before .before .before .before .before .args .i) (c .before .before .before .before .before .before .before .before .before .before .before .before .before .before .before .before .before .before .before .before .pre .1 .1)))
+returns c =
+    let s = c .before .before .before .before .before .before .before .before .before .before .before .before .before .before .before .before .before .before .before .before in (
+      rw (
+        c .before .before .before .before4 .ensures,
+        c .before .before .before .before .before3 .ensures,
+        c .before .before .before .before .before .before2 .ensures,
+        c .before .before .before .before .before .before .check52 .ensures,
+        c .before .before .before .before .before .before .before .is-string2 .ensures,
+        c .before .before .before .before .before .before .before .before .check8 .ensures,
+        c .before .before .before .before .before .before .before .before .before .check5 .ensures,
+        c .before .before .before .before .before .before .before .before .before .before .is-string .ensures,
+        c .before .before .before .before .before .before .before .before .before .before .before .check4 .ensures,
+        c .before .before .before .before .before .before .before .before .before .before .before .before .value-of2 .ensures,
+        c .before .before .before .before .before .before .before .before .before .before .before .before .before .parse-tform .ensures,
+        c .before .before .before .before .before .before .before .before .before .before .before .before .before .before .text-of .ensures,
+        c .before .before .before .before .before .before .before .before .before .before .before .before .before .before .before .value-of .ensures,
+        c .before .before .before .before .before .before .before .before .before .before .before .before .before .before .before .before .record-of2 .ensures,
+        c .before .before .before .before .before .before .before .before .before .before .before .before .before .before .before .before .before .record-of .ensures,
+        at-tform (s .args .header .now) (s .args .first .now) (s .pre .0) (s .args .i) (s .pre .1 .1),
+        at-ttype (s .args .header .now) (s .args .first .now) (s .pre .0) (s .args .i) (s .pre .1 .1),
+      ) (first-four _ _ _ _),
+      rw (
+        c .name-in .ensures,
+        c .before .count-in .ensures,
+        c .before .before .type-in .ensures,
+        c .before .before .before .before .before .before .before .before .before .before .before .before .value-of2 .ensures,
+        c .before .before .before .before .before .before .before .before .before .before .before .before .before .parse-tform .ensures,
+        c .before .before .before .before .before .before .before .before .before .before .before .before .before .before .text-of .ensures,
+        c .before .before .before .before .before .before .before .before .before .before .before .before .before .before .before .value-of .ensures,
+        c .before .before .before .before .before .before .before .before .before .before .before .before .before .before .before .before .record-of2 .ensures,
+        c .before .before .before .before .before .before .before .before .before .before .before .before .before .before .before .before .before .record-of .ensures,
+        at-tform (s .args .header .now) (s .args .first .now) (s .pre .0) (s .args .i) (s .pre .1 .1),
+        at-ttype (s .args .header .now) (s .args .first .now) (s .pre .0) (s .args .i) (s .pre .1 .1),
+      ),
+    )
 
 pub read-column-spec : {M : Type 1} → statement M
 read-column-spec =

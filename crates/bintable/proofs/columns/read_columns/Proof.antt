@@ -25,7 +25,11 @@ read c = rw (← c .before .before .loop .inv .1 .1 .1) (c .read-column .ensures
 bytes : (c : tie.After-num-bytes-field Inv-loop μ-loop) → c .before .before .before .before .before .loop .start + c .num-bytes-field .result ≡ rowBytes (columnsTo (c .before .before .before .before .before .before .before .before .before .args .header .now) (c .before .before .before .before .before .loop .i + 1))
 bytes c =
     let e = c .num-bytes-field .ensures ∙ ap columnBytes (read (c .before .before .before)) in
-    rw (← bytes-next (c .before .before .before .before .before .before .before .before .before .args .header .now) (c .before .before .before .before .before .loop .i)) (omega (arith, e, c .before .before .before .before .before .loop .inv .1 .1 .1))
+    rw (← bytes-next (c .before .before .before .before .before .before .before .before .before .args .header .now) (c .before .before .before .before .before .loop .i)) (omega (
+      arith,
+      e,
+      c .before .before .before .before .before .loop .inv .1 .1 .1,
+    ))
 
 no-column-requires : tie.Need-no-column-requires Inv-loop μ-loop
 no-column-requires c κs = search needs
@@ -34,7 +38,17 @@ loop-holds : tie.Need-loop-holds Inv-loop μ-loop
 loop-holds c = (omega arith, (checks-none _, (filled-none _ (c .no-column .result) (c .no-column .ensures), bytes-none _)))
 
 read-column-requires : tie.Need-read-column-requires Inv-loop μ-loop
-read-column-requires c κs = (c .before .before .before .before .before .pre .0, (c .before .before .before .before .before .pre .1 .0, omega (arith, c .loop-test .taken, c .before .before .before .before .before .pre .1 .1)))
+read-column-requires c κs = (
+  c .before .before .before .before .before .pre .0,
+  (
+    c .before .before .before .before .before .pre .1 .0,
+    omega (
+      arith,
+      c .loop-test .taken,
+      c .before .before .before .before .before .pre .1 .1,
+    ),
+  ),
+)
 
 before-requires : tie.Need-before-requires Inv-loop μ-loop
 before-requires c κs = search needs
@@ -49,7 +63,17 @@ num-bytes-field-requires : tie.Need-num-bytes-field-requires Inv-loop μ-loop
 num-bytes-field-requires c κs = search needs
 
 add-start : tie.Need-add-start Inv-loop μ-loop
-add-start c = record { fits = omega (arith, bytes c, bytes-bound (c .before .before .before .before .before .before .before .before .before .args .header .now) (c .before .before .before .before .before .loop .i + 1), c .before .before .before .before .loop-test .taken, c .before .before .before .before .before .before .before .before .before .pre .1 .1) }
+add-start c =
+    let s = c .before .before .before .before .before .before .before .before .before in
+    record {
+      fits = omega (
+        arith,
+        bytes c,
+        bytes-bound (s .args .header .now) (c .before .before .before .before .before .loop .i + 1),
+        c .before .before .before .before .loop-test .taken,
+        s .pre .1 .1,
+      );
+    }
 
 add-i : tie.Need-add-i Inv-loop μ-loop
 add-i c = search needs
@@ -61,9 +85,16 @@ loop-again : tie.Need-loop-again Inv-loop μ-loop
 loop-again c = (
   omega arith,
   (
-    rw (c .before .before2 .ensures, c .before .before .before .before .before .loop .inv .1 .0, c .before .before .before .read-column .ensures .0) (checks-next (c .before .before .before .before .before .before .before .before .before .args .header .now) (c .before .before .before .before .before .loop .i)),
+    rw (
+      c .before .before2 .ensures,
+      c .before .before .before .before .before .loop .inv .1 .0,
+      c .before .before .before .read-column .ensures .0,
+    ) (checks-next (c .before .before .before .before .before .before .before .before .before .args .header .now) (c .before .before .before .before .before .loop .i)),
     (
-      rw (c .before .before .before .before .before .loop .inv .1 .1 .0, read (c .before .before .before)) (filled-next (c .before .before .before .before .before .before .before .before .before .args .header .now) (c .before .before .before .before .before .loop .i) (omega (arith, c .before .before .before .before .loop-test .taken, c .before .before .before .before .before .before .before .before .before .pre .1 .1))),
+      rw (
+        c .before .before .before .before .before .loop .inv .1 .1 .0,
+        read (c .before .before .before),
+      ) (filled-next (c .before .before .before .before .before .before .before .before .before .args .header .now) (c .before .before .before .before .before .loop .i) (omega (arith, c .before .before .before .before .loop-test .taken, c .before .before .before .before .before .before .before .before .before .pre .1 .1))),
       bytes c,
     ),
   ),

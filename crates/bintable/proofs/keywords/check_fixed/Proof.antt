@@ -32,7 +32,16 @@ before-requires-2 c κs = search needs
 
 returns : tie.Need-returns
 unfolding required
-returns c = rw (c .before3 .ensures, c .before .before2 .ensures, c .before .before .check6 .ensures, c .before .before .before .is-within .ensures, c .before .before .before .before .check5 .ensures, c .before .before .before .before .before .is-integer .ensures, c .before .before .before .before .before .before .check4 .ensures, c .before .before .before .before .before .before .before .value-of .ensures) (first-three _ _ _)
+returns c = rw (
+  c .before3 .ensures,
+  c .before .before2 .ensures,
+  c .before .before .check6 .ensures,
+  c .before .before .before .is-within .ensures,
+  c .before .before .before .before .check5 .ensures,
+  c .before .before .before .before .before .is-integer .ensures,
+  c .before .before .before .before .before .before .check4 .ensures,
+  c .before .before .before .before .before .before .before .value-of .ensures,
+) (first-three _ _ _)
 
 pub check-fixed-spec : {M : Type 1} → statement M
 check-fixed-spec =

@@ -33,7 +33,21 @@ before-requires-2 c κs = search needs
 
 returns : tie.Need-returns
 unfolding nine
-returns c = rw (c .before3 .ensures, c .before .before2 .ensures, c .before .before .check-fixed2 .ensures, c .before .before .before .record-of3 .ensures, c .before .before .before .before .check-fixed .ensures, c .before .before .before .before .before .record-of2 .ensures, c .before .before .before .before .before .before .check-xtension .ensures, c .before .before .before .before .before .before .before .record-of .ensures, at-xtension (c .before .before .before .before .before .before .before .before .before .before .args .header .now) (c .before .before .before .before .before .before .before .before .before .before .args .first .now) (c .before .before .before .before .before .before .before .before .before .before .pre), at-bitpix (c .before .before .before .before .before .before .before .before .before .before .args .header .now) (c .before .before .before .before .before .before .before .before .before .before .args .first .now) (c .before .before .before .before .before .before .before .before .before .before .pre), at-naxis (c .before .before .before .before .before .before .before .before .before .before .args .header .now) (c .before .before .before .before .before .before .before .before .before .before .args .first .now) (c .before .before .before .before .before .before .before .before .before .before .pre)) (first-three _ _ _)
+returns c =
+    let s = c .before .before .before .before .before .before .before .before .before .before in
+    rw (
+      c .before3 .ensures,
+      c .before .before2 .ensures,
+      c .before .before .check-fixed2 .ensures,
+      c .before .before .before .record-of3 .ensures,
+      c .before .before .before .before .check-fixed .ensures,
+      c .before .before .before .before .before .record-of2 .ensures,
+      c .before .before .before .before .before .before .check-xtension .ensures,
+      c .before .before .before .before .before .before .before .record-of .ensures,
+      at-xtension (s .args .header .now) (s .args .first .now) (s .pre),
+      at-bitpix (s .args .header .now) (s .args .first .now) (s .pre),
+      at-naxis (s .args .header .now) (s .args .first .now) (s .pre),
+    ) (first-three _ _ _)
 
 pub check-kind-spec : {M : Type 1} → statement M
 check-kind-spec =

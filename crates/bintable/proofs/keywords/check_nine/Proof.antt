@@ -30,13 +30,19 @@ enum-told : tie.Need-enum-told
 enum-told c = search needs
 
 check-rest-requires : tie.Need-check-rest-requires
-check-rest-requires c κs = (c .before .before .before .before .before .before .before .pre, both-accepted (firstRefusal (kinds (c .before .before .before .before .before .before .before .args .header .now))) (firstRefusal (sizes (c .before .before .before .before .before .before .before .args .header .now))) (sym (six (c .before .before)) ∙ ap outcomeOf (c .enum-told .given .1)) .1)
+check-rest-requires c κs =
+    let s = c .before .before .before .before .before .before .before in
+    (s .pre, both-accepted (firstRefusal (kinds (s .args .header .now))) (firstRefusal (sizes (s .args .header .now))) (sym (six (c .before .before)) ∙ ap outcomeOf (c .enum-told .given .1)) .1)
 
 returns : tie.Need-returns
 returns c = rw (nine-parts (c .before .before .before .before .before .before .before .before .args .header .now), ← six (c .before .before .before), c .before .six .given .1)
 
 returns-2 : tie.Need-returns-2
-returns-2 c = rw (nine-parts (c .before .before .before .before .before .before .before .before .args .header .now), ← six (c .before .before .before), c .before .enum-told .given .1) (c .check-rest .ensures)
+returns-2 c = rw (
+  nine-parts (c .before .before .before .before .before .before .before .before .args .header .now),
+  ← six (c .before .before .before),
+  c .before .enum-told .given .1,
+) (c .check-rest .ensures)
 
 pub check-nine-spec : {M : Type 1} → statement M
 check-nine-spec =

@@ -16,10 +16,25 @@ record-of-requires : tie.Need-record-of-requires
 record-of-requires c κs = search needs
 
 main : (c : tie.After-record-of6) → c .before .before .before .before .before .before .before .before .before .size-of .result * c .before .before .before .before .before .before .before .size-of2 .result ≡ mainOf (c .before .before .before .before .before .before .before .before .before .before .before .before .before .args .header .now)
-main c = rw (c .before .before .before .before .before .before .before .before .before .size-of .ensures, c .before .before .before .before .before .before .before .before .before .before .record-of .ensures, c .before .before .before .before .before .before .before .size-of2 .ensures, c .before .before .before .before .before .before .before .before .record-of2 .ensures, at-naxis1 (c .before .before .before .before .before .before .before .before .before .before .before .before .before .args .header .now) (c .before .before .before .before .before .before .before .before .before .before .before .before .before .args .first .now) (c .before .before .before .before .before .before .before .before .before .before .before .before .before .pre .0), at-naxis2 (c .before .before .before .before .before .before .before .before .before .before .before .before .before .args .header .now) (c .before .before .before .before .before .before .before .before .before .before .before .before .before .args .first .now) (c .before .before .before .before .before .before .before .before .before .before .before .before .before .pre .0))
+main c =
+    let s = c .before .before .before .before .before .before .before .before .before .before .before .before .before in
+    rw (
+      c .before .before .before .before .before .before .before .before .before .size-of .ensures,
+      c .before .before .before .before .before .before .before .before .before .before .record-of .ensures,
+      c .before .before .before .before .before .before .before .size-of2 .ensures,
+      c .before .before .before .before .before .before .before .before .record-of2 .ensures,
+      at-naxis1 (s .args .header .now) (s .args .first .now) (s .pre .0),
+      at-naxis2 (s .args .header .now) (s .args .first .now) (s .pre .0),
+    )
 
 pcount : (c : tie.After-record-of6) → c .before .before .before .before .before .size-of3 .result ≡ sizeFor (c .before .before .before .before .before .before .before .before .before .before .before .before .before .args .header .now) "PCOUNT"
-pcount c = rw (c .before .before .before .before .before .size-of3 .ensures, c .before .before .before .before .before .before .record-of3 .ensures, at-pcount (c .before .before .before .before .before .before .before .before .before .before .before .before .before .args .header .now) (c .before .before .before .before .before .before .before .before .before .before .before .before .before .args .first .now) (c .before .before .before .before .before .before .before .before .before .before .before .before .before .pre .0))
+pcount c =
+    let s = c .before .before .before .before .before .before .before .before .before .before .before .before .before in
+    rw (
+      c .before .before .before .before .before .size-of3 .ensures,
+      c .before .before .before .before .before .before .record-of3 .ensures,
+      at-pcount (s .args .header .now) (s .args .first .now) (s .pre .0),
+    )
 
 size-of-requires : tie.Need-size-of-requires
 size-of-requires c κs = search needs
@@ -52,10 +67,14 @@ record-of-requires-6 : tie.Need-record-of-requires-6
 record-of-requires-6 c κs = search needs
 
 mul-check-theap : tie.Need-mul-check-theap
-mul-check-theap c = omega (arith, main c, main-limit (c .before .before .before .before .before .before .before .before .before .before .before .before .before .args .header .now) (c .before .before .before .before .before .before .before .before .before .before .before .before .before .pre .1))
+mul-check-theap c =
+    let s = c .before .before .before .before .before .before .before .before .before .before .before .before .before in
+    omega (arith, main c, main-limit (s .args .header .now) (s .pre .1))
 
 check-theap-requires : tie.Need-check-theap-requires
-check-theap-requires c κs = omega (arith, main c, pcount c, main-limit (c .before .before .before .before .before .before .before .before .before .before .before .before .before .args .header .now) (c .before .before .before .before .before .before .before .before .before .before .before .before .before .pre .1), size-limits (c .before .before .before .before .before .before .before .before .before .before .before .before .before .args .header .now) (c .before .before .before .before .before .before .before .before .before .before .before .before .before .pre .1))
+check-theap-requires c κs =
+    let s = c .before .before .before .before .before .before .before .before .before .before .before .before .before in
+    omega (arith, main c, pcount c, main-limit (s .args .header .now) (s .pre .1), size-limits (s .args .header .now) (s .pre .1))
 
 before-requires : tie.Need-before-requires
 before-requires c κs = search needs
@@ -65,7 +84,23 @@ before-requires-2 c κs = search needs
 
 returns : tie.Need-returns
 unfolding nine
-returns c = rw (c .before3 .ensures, c .before .before2 .ensures, c .before .before .check-theap .ensures, c .before .before .before .record-of6 .ensures, c .before .before .before .before .check-tfields .ensures, c .before .before .before .before .before .record-of5 .ensures, c .before .before .before .before .before .before .check-fixed .ensures, c .before .before .before .before .before .before .before .record-of4 .ensures, main (c .before .before .before), pcount (c .before .before .before), at-gcount (c .before .before .before .before .before .before .before .before .before .before .before .before .before .before .before .before .args .header .now) (c .before .before .before .before .before .before .before .before .before .before .before .before .before .before .before .before .args .first .now) (c .before .before .before .before .before .before .before .before .before .before .before .before .before .before .before .before .pre .0), at-tfields (c .before .before .before .before .before .before .before .before .before .before .before .before .before .before .before .before .args .header .now) (c .before .before .before .before .before .before .before .before .before .before .before .before .before .before .before .before .args .first .now) (c .before .before .before .before .before .before .before .before .before .before .before .before .before .before .before .before .pre .0), at-theap (c .before .before .before .before .before .before .before .before .before .before .before .before .before .before .before .before .args .header .now) (c .before .before .before .before .before .before .before .before .before .before .before .before .before .before .before .before .args .first .now) (c .before .before .before .before .before .before .before .before .before .before .before .before .before .before .before .before .pre .0)) (first-three _ _ _)
+returns c =
+    let s = c .before .before .before .before .before .before .before .before .before .before .before .before .before .before .before .before in
+    rw (
+      c .before3 .ensures,
+      c .before .before2 .ensures,
+      c .before .before .check-theap .ensures,
+      c .before .before .before .record-of6 .ensures,
+      c .before .before .before .before .check-tfields .ensures,
+      c .before .before .before .before .before .record-of5 .ensures,
+      c .before .before .before .before .before .before .check-fixed .ensures,
+      c .before .before .before .before .before .before .before .record-of4 .ensures,
+      main (c .before .before .before),
+      pcount (c .before .before .before),
+      at-gcount (s .args .header .now) (s .args .first .now) (s .pre .0),
+      at-tfields (s .args .header .now) (s .args .first .now) (s .pre .0),
+      at-theap (s .args .header .now) (s .args .first .now) (s .pre .0),
+    ) (first-three _ _ _)
 
 pub check-rest-spec : {M : Type 1} → statement M
 check-rest-spec =

@@ -38,7 +38,18 @@ before-requires-3 c κs = search needs
 
 returns : tie.Need-returns
 unfolding limited
-returns c = rw (c .before4 .ensures, c .before .before3 .ensures, c .before .before .before2 .ensures, c .before .before .before .check7 .ensures, c .before .before .before .before .check6 .ensures, c .before .before .before .before .before .not-negative .ensures, c .before .before .before .before .before .before .check5 .ensures, c .before .before .before .before .before .before .before .is-integer .ensures, c .before .before .before .before .before .before .before .before .check4 .ensures, c .before .before .before .before .before .before .before .before .before .value-of .ensures) (first-four _ _ _ _)
+returns c = rw (
+  c .before4 .ensures,
+  c .before .before3 .ensures,
+  c .before .before .before2 .ensures,
+  c .before .before .before .check7 .ensures,
+  c .before .before .before .before .check6 .ensures,
+  c .before .before .before .before .before .not-negative .ensures,
+  c .before .before .before .before .before .before .check5 .ensures,
+  c .before .before .before .before .before .before .before .is-integer .ensures,
+  c .before .before .before .before .before .before .before .before .check4 .ensures,
+  c .before .before .before .before .before .before .before .before .before .value-of .ensures,
+) (first-four _ _ _ _)
 
 pub check-size-spec : {M : Type 1} → statement M
 check-size-spec =

@@ -29,7 +29,14 @@ before-requires c κs = search needs
 
 returns : tie.Need-returns
 unfolding theapCheck
-returns c = rw (c .before2 .ensures, c .before .check6 .ensures, c .before .before .is-within .ensures, c .before .before .before .check5 .ensures, c .before .before .before .before .is-integer .ensures, c .before .before .before .before .before .value-of .ensures) (first-two _ _)
+returns c = rw (
+  c .before2 .ensures,
+  c .before .check6 .ensures,
+  c .before .before .is-within .ensures,
+  c .before .before .before .check5 .ensures,
+  c .before .before .before .before .is-integer .ensures,
+  c .before .before .before .before .before .value-of .ensures,
+) (first-two _ _)
 
 pub check-theap-spec : {M : Type 1} → statement M
 check-theap-spec =

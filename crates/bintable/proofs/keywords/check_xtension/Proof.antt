@@ -39,7 +39,17 @@ before-requires-2 c κs = search needs
 
 returns : tie.Need-returns
 unfolding required bytes
-returns c = rw (c .before3 .ensures, c .before .before2 .ensures, c .before .before .check6 .ensures, c .before .before .before .check5 .ensures, c .before .before .before .before .is-string .ensures, c .before .before .before .before .before .check4 .ensures, c .before .before .before .before .before .before .same-bytes .ensures, c .before .before .before .before .before .before .before .before .text-of .ensures, c .before .before .before .before .before .before .before .before .before .value-of .ensures) (first-three _ _ _)
+returns c = rw (
+  c .before3 .ensures,
+  c .before .before2 .ensures,
+  c .before .before .check6 .ensures,
+  c .before .before .before .check5 .ensures,
+  c .before .before .before .before .is-string .ensures,
+  c .before .before .before .before .before .check4 .ensures,
+  c .before .before .before .before .before .before .same-bytes .ensures,
+  c .before .before .before .before .before .before .before .before .text-of .ensures,
+  c .before .before .before .before .before .before .before .before .before .value-of .ensures,
+) (first-three _ _ _)
 
 pub check-xtension-spec : {M : Type 1} → statement M
 check-xtension-spec =

@@ -48,16 +48,27 @@ count-ok-requires : tie.Need-count-ok-requires Inv-loop μ-loop
 count-ok-requires c κs = search needs
 
 returns : tie.Need-returns Inv-loop μ-loop
-returns c = sym (c .before .before .before .before .loop .inv .1 .1 ∙ ok-count _ _ (columnsOf (c .before .before .before .before .before .args .t1)) (c .before .before .before .before .loop .i) _ (inside (c .before .before .before)) (column-at (c .before .before .before .before .before .args .t1) (c .before .before .before .before .loop .i) (c .before .before .before .loop-test .taken)) (sym (c .before .count-ok .ensures) ∙ not-true _ (c .if1 .taken)))
+returns c =
+    let s = c .before .before .before .before .before in
+    sym (c .before .before .before .before .loop .inv .1 .1 ∙ ok-count _ _ (columnsOf (s .args .t1)) (c .before .before .before .before .loop .i) _ (inside (c .before .before .before)) (column-at (s .args .t1) (c .before .before .before .before .loop .i) (c .before .before .before .loop-test .taken)) (sym (c .before .count-ok .ensures) ∙ not-true _ (c .if1 .taken)))
 
 returns-2 : tie.Need-returns-2 Inv-loop μ-loop
-returns-2 c = sym (c .before .before .before .before .before .before .loop .inv .1 .1 ∙ ok-start _ _ (columnsOf (c .before .before .before .before .before .before .before .args .t1)) (c .before .before .before .before .before .before .loop .i) _ (inside (c .before .before .before .before .before)) (column-at (c .before .before .before .before .before .before .before .args .t1) (c .before .before .before .before .before .before .loop .i) (c .before .before .before .before .before .loop-test .taken)) (c .if2 .taken))
+returns-2 c =
+    let s = c .before .before .before .before .before .before .before in
+    sym (c .before .before .before .before .before .before .loop .inv .1 .1
+    ∙ ok-start _ _ (columnsOf (s .args .t1)) (c .before .before .before .before .before .before .loop .i) _ (inside (c .before .before .before .before .before)) (column-at (s .args .t1) (c .before .before .before .before .before .before .loop .i) (c .before .before .before .before .before .loop-test .taken)) (c .if2 .taken))
 
 num-bytes-field-requires : tie.Need-num-bytes-field-requires Inv-loop μ-loop
 num-bytes-field-requires c κs = search needs
 
 add-at : tie.Need-add-at Inv-loop μ-loop
-add-at c = omega (arith, width c, c .before .before .before .before .before .before .before .loop .inv .1 .0, c .before .before .before .before .before .before .loop-test .taken, c .before .before .before .before .before .before .before .before .pre)
+add-at c = omega (
+  arith,
+  width c,
+  c .before .before .before .before .before .before .before .loop .inv .1 .0,
+  c .before .before .before .before .before .before .loop-test .taken,
+  c .before .before .before .before .before .before .before .before .pre,
+)
 
 add-i : tie.Need-add-i Inv-loop μ-loop
 add-i c = search needs
@@ -66,7 +77,15 @@ loop-less : tie.Need-loop-less Inv-loop μ-loop
 loop-less c = search needs
 
 loop-again : tie.Need-loop-again Inv-loop μ-loop
-loop-again c = (omega arith, (omega (arith, width c, c .before .before .before .before .before .before .before .loop .inv .1 .0), c .before .before .before .before .before .before .before .loop .inv .1 .1 ∙ (ok-next _ _ (columnsOf (c .before .before .before .before .before .before .before .before .args .t1)) (c .before .before .before .before .before .before .before .loop .i) _ (inside (c .before .before .before .before .before .before)) (column-at (c .before .before .before .before .before .before .before .before .args .t1) (c .before .before .before .before .before .before .before .loop .i) (c .before .before .before .before .before .before .loop-test .taken)) (count c) (c .before .if2 .left) ∙ ap (λ (w : ℕ). columnsOk (c .before .before .before .before .before .before .before .before .args .t1 .naxis1) (c .before .before .before .before .before .before .before .loop .at + w) (drop (c .before .before .before .before .before .before .before .loop .i + 1) (columnsOf (c .before .before .before .before .before .before .before .before .args .t1)))) (sym (c .num-bytes-field .ensures)))))
+loop-again c =
+    let s = c .before .before .before .before .before .before .before .before in (
+      omega arith,
+      (
+        omega (arith, width c, c .before .before .before .before .before .before .before .loop .inv .1 .0),
+        c .before .before .before .before .before .before .before .loop .inv .1 .1
+            ∙ (ok-next _ _ (columnsOf (s .args .t1)) (c .before .before .before .before .before .before .before .loop .i) _ (inside (c .before .before .before .before .before .before)) (column-at (s .args .t1) (c .before .before .before .before .before .before .before .loop .i) (c .before .before .before .before .before .before .loop-test .taken)) (count c) (c .before .if2 .left) ∙ ap (λ (w : ℕ). columnsOk (s .args .t1 .naxis1) (c .before .before .before .before .before .before .before .loop .at + w) (drop (c .before .before .before .before .before .before .before .loop .i + 1) (columnsOf (s .args .t1)))) (sym (c .num-bytes-field .ensures))),
+      ),
+    )
 
 returns-3 : tie.Need-returns-3 Inv-loop μ-loop
 returns-3 c = sym (c .before .loop .inv .1 .1 ∙ ok-end _ _ (columnsOf (c .before .before .args .t1)) (c .before .loop .i) (omega (arith, columns (c .before .before), c .loop-test .left)))

@@ -20,7 +20,11 @@ same-name-requires : tie.Need-same-name-requires
 same-name-requires c κs = search needs
 
 returns-2 : tie.Need-returns-2
-returns-2 c = let e = sym (c .before .before .before .in-header .ensures) ∙ not-false _ (c .before .before .if1 .left) in rw (e, ← part-in-header _ _ e, ← c .before .part .ensures) (c .same-name .ensures)
+returns-2 c = let e = sym (c .before .before .before .in-header .ensures) ∙ not-false _ (c .before .before .if1 .left) in rw (
+  e,
+  ← part-in-header _ _ e,
+  ← c .before .part .ensures,
+) (c .same-name .ensures)
 
 pub has-name-spec : {M : Type 1} → statement M
 has-name-spec =

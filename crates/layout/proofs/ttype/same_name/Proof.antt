@@ -26,7 +26,9 @@ more c = lt-of-le-of-ne (c .before .before .before .before .before .before .loop
 -- the next byte of the name stands at i
 next : (c : tie.In-loop Inv-loop μ-loop) → sameName (c .before .before .before .before .args .part .now) (c .before .before .before .before .args .sought .now)
     ≡ same (getD (c .before .before .before .before .args .part .now) (c .before .loop .i) 0 ∷ undoubled (drop (c .before .loop .i + byteLen (c .before .before .before .before .args .part .now) (c .before .loop .i)) (c .before .before .before .before .args .part .now))) (drop (c .before .loop .j) (c .before .before .before .before .args .sought .now))
-next c = c .before .loop .inv .1 .1 ∙ ap (λ (l : List ℕ). same l (drop (c .before .loop .j) (c .before .before .before .before .args .sought .now))) (undoubled-next (c .before .before .before .before .args .part .now) (c .before .loop .i) (c .loop-test .taken))
+next c =
+    let s = c .before .before .before .before in
+    c .before .loop .inv .1 .1 ∙ ap (λ (l : List ℕ). same l (drop (c .before .loop .j) (s .args .sought .now))) (undoubled-next (s .args .part .now) (c .before .loop .i) (c .loop-test .taken))
 
 loop-holds : tie.Need-loop-holds Inv-loop μ-loop
 loop-holds c = (omega arith, (omega arith, refl))
@@ -53,13 +55,30 @@ add-j : tie.Need-add-j Inv-loop μ-loop
 add-j c = search needs
 
 loop-less : tie.Need-loop-less Inv-loop μ-loop
-loop-less c = omega (arith, c .byte-len .ensures, len-least (c .before .before .before .before .before .before .before .before .before .args .part .now) (c .before .before .before .before .before .before .loop .i), len-inside (c .before .before .before .before .before .before .before .before .before .args .part .now) (c .before .before .before .before .before .before .loop .i) (c .before .before .before .before .before .loop-test .taken))
+loop-less c =
+    let s = c .before .before .before .before .before .before .before .before .before in
+    omega (
+      arith,
+      c .byte-len .ensures,
+      len-least (s .args .part .now) (c .before .before .before .before .before .before .loop .i),
+      len-inside (s .args .part .now) (c .before .before .before .before .before .before .loop .i) (c .before .before .before .before .before .loop-test .taken),
+    )
 
 loop-again : tie.Need-loop-again Inv-loop μ-loop
-loop-again c = (rw (c .byte-len .ensures) (len-inside (c .before .before .before .before .before .before .before .before .before .args .part .now) (c .before .before .before .before .before .before .loop .i) (c .before .before .before .before .before .loop-test .taken)), (rw add-one (more c), rw (c .byte-len .ensures) (next (c .before .before .before .before .before) ∙ sought-next _ _ (c .before .before .before .before .before .before .before .before .before .args .sought .now) (c .before .before .before .before .before .before .loop .j) (more c) (c .before .if2 .left))))
+loop-again c =
+    let s = c .before .before .before .before .before .before .before .before .before in (
+      rw (c .byte-len .ensures) (len-inside (s .args .part .now) (c .before .before .before .before .before .before .loop .i) (c .before .before .before .before .before .loop-test .taken)),
+      (
+        rw add-one (more c),
+        rw (c .byte-len .ensures) (next (c .before .before .before .before .before)
+            ∙ sought-next _ _ (s .args .sought .now) (c .before .before .before .before .before .before .loop .j) (more c) (c .before .if2 .left)),
+      ),
+    )
 
 returns-3 : tie.Need-returns-3 Inv-loop μ-loop
-returns-3 c = sym (c .before .loop .inv .1 .1 ∙ ap (λ (l : List ℕ). same l (drop (c .before .loop .j) (c .before .before .before .before .args .sought .now))) (undoubled-end (c .before .before .before .before .args .part .now) (c .before .loop .i) (c .loop-test .left)) ∙ sought-end (c .before .before .before .before .args .sought .now) (c .before .loop .j) (c .before .loop .inv .1 .0))
+returns-3 c =
+    let s = c .before .before .before .before in
+    sym (c .before .loop .inv .1 .1 ∙ ap (λ (l : List ℕ). same l (drop (c .before .loop .j) (s .args .sought .now))) (undoubled-end (s .args .part .now) (c .before .loop .i) (c .loop-test .left)) ∙ sought-end (s .args .sought .now) (c .before .loop .j) (c .before .loop .inv .1 .0))
 
 pub same-name-spec : {M : Type 1} → statement M
 same-name-spec =

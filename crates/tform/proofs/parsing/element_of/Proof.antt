@@ -51,7 +51,19 @@ returns-11 c = rw (c .match .keys11)
 
 returns-12 : tie.Need-returns-12
 unfolding elementOf elementAmong
-returns-12 c = rw (ne-eqb (c .before .args .letter) 76 (c .match .rest .0 .0 .0 .0 .0 .0 .0 .0 .0 .0 .1), ne-eqb (c .before .args .letter) 88 (c .match .rest .0 .0 .0 .0 .0 .0 .0 .0 .0 .1), ne-eqb (c .before .args .letter) 66 (c .match .rest .0 .0 .0 .0 .0 .0 .0 .0 .1), ne-eqb (c .before .args .letter) 73 (c .match .rest .0 .0 .0 .0 .0 .0 .0 .1), ne-eqb (c .before .args .letter) 74 (c .match .rest .0 .0 .0 .0 .0 .0 .1), ne-eqb (c .before .args .letter) 75 (c .match .rest .0 .0 .0 .0 .0 .1), ne-eqb (c .before .args .letter) 65 (c .match .rest .0 .0 .0 .0 .1), ne-eqb (c .before .args .letter) 69 (c .match .rest .0 .0 .0 .1), ne-eqb (c .before .args .letter) 68 (c .match .rest .0 .0 .1), ne-eqb (c .before .args .letter) 67 (c .match .rest .0 .1), ne-eqb (c .before .args .letter) 77 (c .match .rest .1))
+returns-12 c = rw (
+  ne-eqb (c .before .args .letter) 76 (c .match .rest .0 .0 .0 .0 .0 .0 .0 .0 .0 .0 .1),
+  ne-eqb (c .before .args .letter) 88 (c .match .rest .0 .0 .0 .0 .0 .0 .0 .0 .0 .1),
+  ne-eqb (c .before .args .letter) 66 (c .match .rest .0 .0 .0 .0 .0 .0 .0 .0 .1),
+  ne-eqb (c .before .args .letter) 73 (c .match .rest .0 .0 .0 .0 .0 .0 .0 .1),
+  ne-eqb (c .before .args .letter) 74 (c .match .rest .0 .0 .0 .0 .0 .0 .1),
+  ne-eqb (c .before .args .letter) 75 (c .match .rest .0 .0 .0 .0 .0 .1),
+  ne-eqb (c .before .args .letter) 65 (c .match .rest .0 .0 .0 .0 .1),
+  ne-eqb (c .before .args .letter) 69 (c .match .rest .0 .0 .0 .1),
+  ne-eqb (c .before .args .letter) 68 (c .match .rest .0 .0 .1),
+  ne-eqb (c .before .args .letter) 67 (c .match .rest .0 .1),
+  ne-eqb (c .before .args .letter) 77 (c .match .rest .1),
+)
 
 pub element-of-spec : {M : Type 1} → statement M
 element-of-spec =

@@ -31,7 +31,9 @@ p-kind-requires : tie.Need-p-kind-requires
 p-kind-requires c κs = search needs
 
 returns-2 : tie.Need-returns-2
-returns-2 c = c .p-kind .ensures ∙ ap (kindWith P) (c .before .first-element .ensures ∙ ap firstElement (part-from (c .before .before .before .before .before .before .before .args .text .now) 1)) ∙ kind-p _ (c .before .before .before .before .before .if1 .left) (c .before .before .before .if2 .taken)
+returns-2 c = c .p-kind .ensures ∙ ap (kindWith P) (c .before .first-element .ensures
+    ∙ ap firstElement (part-from (c .before .before .before .before .before .before .before .args .text .now) 1))
+    ∙ kind-p _ (c .before .before .before .before .before .if1 .left) (c .before .before .before .if2 .taken)
 
 shared-slice-read-if3 : tie.Need-shared-slice-read-if3
 shared-slice-read-if3 c = search needs
@@ -52,7 +54,9 @@ q-kind-requires : tie.Need-q-kind-requires
 q-kind-requires c κs = search needs
 
 returns-3 : tie.Need-returns-3
-returns-3 c = c .q-kind .ensures ∙ ap (kindWith Q) (c .before .first-element2 .ensures ∙ ap firstElement (part-from (c .before .before .before .before .before .before .before .before .before .args .text .now) 1)) ∙ kind-q _ (c .before .before .before .before .before .before .before .if1 .left) (c .before .before .before .if3 .taken)
+returns-3 c = c .q-kind .ensures ∙ ap (kindWith Q) (c .before .first-element2 .ensures
+    ∙ ap firstElement (part-from (c .before .before .before .before .before .before .before .before .before .args .text .now) 1))
+    ∙ kind-q _ (c .before .before .before .before .before .before .before .if1 .left) (c .before .before .before .if3 .taken)
 
 shared-slice-read-element-of : tie.Need-shared-slice-read-element-of
 shared-slice-read-element-of c = search needs
@@ -64,7 +68,8 @@ items-kind-requires : tie.Need-items-kind-requires
 items-kind-requires c κs = search needs
 
 returns-4 : tie.Need-returns-4
-returns-4 c = c .items-kind .ensures ∙ ap (kindWith Items) (c .before .element-of .ensures) ∙ kind-items _ (c .before .before .before .before .before .before .before .if1 .left) (c .before .before .before .before .before .if2 .left) (c .before .before .before .if3 .left)
+returns-4 c = c .items-kind .ensures ∙ ap (kindWith Items) (c .before .element-of .ensures)
+    ∙ kind-items _ (c .before .before .before .before .before .before .before .if1 .left) (c .before .before .before .before .before .if2 .left) (c .before .before .before .if3 .left)
 
 pub kind-of-spec : {M : Type 1} → statement M
 kind-of-spec =
