@@ -1,4 +1,4 @@
--- What the used names say, and the checks 4 to 8 of their records (FORMAT.md, sections 8 and 10).
+-- The values of the used names, and the checks 4 to 8 of their records (FORMAT.md, sections 3, 4 and 10).
 -- Assumes nothing.
 use Prim.Native.Nat.{ℕ}
 use Prim.Native.String.{String}

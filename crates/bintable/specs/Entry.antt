@@ -1,4 +1,4 @@
--- The entry (FORMAT.md, sections 8 and 10; the standard, 7.3.1, 7.3.2 and 7.3.5): for a header and a data area, the layout or one refusal.
+-- The entry (FORMAT.md, sections 7 to 10; the standard, 7.3.1, 7.3.2 and 7.3.5): for a header and a data area, the layout or one refusal.
 -- Assumes nothing.
 use Prim.Native.Nat.{ℕ, zero, suc, _+_, _-_, _*_}
 use mathlib.Core.List.{List, [], _∷_, _++_, map}

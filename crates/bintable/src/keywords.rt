@@ -102,7 +102,7 @@ fn check_sizes(header: &[u8], first: &[u16]) -> Check
     let pcount = check_size(
         header,
         header::record_of(first, keyword::PCOUNT),
-        2147483647,
+        PCOUNT_LIMIT,
     );
     checks::before(naxis1, checks::before(naxis2, pcount))
 }

@@ -2,12 +2,12 @@
 -- Assumes nothing.
 use mathlib.Core.Path.{_≡_, refl}
 use mathlib.Core.Bool.{true, false}
-use mathlib.Core.List.{List, []}
-use Prim.Native.Nat.{ℕ, _+_, _-_, _≤_, _<_}
+use mathlib.Core.List.{List, [], _∷_}
+use Prim.Native.Nat.{ℕ, _+_, _-_, _≤_, _<_, suc}
 use native.Mathlib.Numerals.{add-one}
 use native.Mathlib.Omega.{arith}
 use lib.Dec.{ltb}
-use lib.ListN.{length, getD, take, drop, drop-of-length-le, List·getD-eq-default}
+use lib.ListN.{length, getD, take, drop, drop-of-length-le, List·getD-eq-default, length-take}
 use lib.Seq.{drop-cons, getD-take}
 use borrow.Author.Tests.{le-leb, lt-leb, lt-ltb, le-ltb}
 use Rattle.card.proofs.Cases.{either}
@@ -17,7 +17,7 @@ use Rattle.layout.specs.declared.Name.the-variants.{Missing, Stretch}
 use Rattle.layout.specs.declared.Column.{Column}
 use Rattle.layout.specs.declared.BinTable.{BinTable}
 use Rattle.layout.specs.Layout.{noColumn, columnsOf}
-use Rattle.layout.specs.Names.{inHeader, stretchOf, partOf, columnName, hasName, firstNamed}
+use Rattle.layout.specs.Names.{inHeader, stretchOf, partOf, columnName, hasName, firstNamed, findName}
 
 module _ (h : List ℕ) where
   pub part-missing : [] ≡ partOf h Missing
@@ -66,3 +66,18 @@ module _ (h : List ℕ) where
 
 pub column-at : (l : BinTable) (i : ℕ) → i < l .tfields → getD (columnsOf l) i noColumn ≡ getD (l .columns) i noColumn
 column-at l i p = getD-take (l .tfields) (l .columns) i noColumn p
+
+-- a column that is found is one of the layout's
+found-from : (h sought : List ℕ) (i : ℕ) (cs : List Column) (c : ℕ) → firstNamed h sought i cs ≡ At c → c < i + length cs
+unfolding firstNamed
+found-from h sought i [] c e = absurd (let z : _≡_ {A = ℕ} 0 1 = cc in omega arith)
+found-from h sought i (x ∷ xs) c e =
+    either (hasName h sought x)
+    (λ t. let q = rw t at e in let r : i ≡ c = cc in omega arith)
+    (λ t. omega (arith, found-from h sought (suc i) xs c (rw t at e)))
+
+pub found-inside : (h : List ℕ) (l : BinTable) (sought : List ℕ) (c : ℕ) → findName h l sought ≡ At c → (c < l .tfields) × (c < length (l .columns))
+unfolding findName
+found-inside h l sought c e =
+    let p = found-from h sought 0 (columnsOf l) c e in let n = length-take (l .tfields) (l .columns) in
+    (omega (arith, p, n), omega (arith, p, n))

@@ -1,4 +1,4 @@
--- The layout of a table, and the limits and sums that it keeps (FORMAT.md, section 8; the standard, 7.3.1).
+-- The layout of a table, and the limits and sums that it keeps (FORMAT.md, section 8; the standard, 7.3.1, 7.3.2 and 7.3.5).
 -- Assumes nothing.
 use Prim.Native.Nat.{ℕ, _+_, _*_}
 use mathlib.Core.List.{List, [], _∷_}
