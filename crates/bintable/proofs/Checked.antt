@@ -1,6 +1,6 @@
 -- The tests of a value, and the first refusal of several checks.
 -- Assumes nothing.
-use mathlib.Core.Path.{_≡_, refl}
+use mathlib.Core.Path.{_≡_, refl, sym, _∙_, ap}
 use mathlib.Core.Bool.{true, false}
 use mathlib.Core.List.{List, [], _∷_, _++_}
 use Prim.Native.Nat.{ℕ, _≤_, _<_}
@@ -33,6 +33,10 @@ unfolding firstRefusal
 first-append [] ys = refl
 first-append (x ∷ xs) ys = rw (before-assoc x (firstRefusal xs) (firstRefusal ys), first-append xs ys)
 
+pub first-snoc : (xs : List Outcome) (o : Outcome) → firstRefusal (xs ++ (o ∷ [])) ≡ before (firstRefusal xs) o
+unfolding firstRefusal
+first-snoc xs o = first-append xs (o ∷ []) ∙ ap (before (firstRefusal xs)) (before-accepted o)
+
 pub first-two : (a b : Outcome) → before a b ≡ firstRefusal (a ∷ b ∷ [])
 unfolding firstRefusal
 first-two a b = rw (before-accepted b)
@@ -44,3 +48,7 @@ first-three a b c = rw (before-accepted c)
 pub first-four : (a b c d : Outcome) → before a (before b (before c d)) ≡ firstRefusal (a ∷ b ∷ c ∷ d ∷ [])
 unfolding firstRefusal
 first-four a b c d = rw (before-accepted d)
+
+-- a check after three
+pub three-then : (a b c d : Outcome) → before (firstRefusal (a ∷ b ∷ c ∷ [])) d ≡ firstRefusal (a ∷ b ∷ c ∷ d ∷ [])
+three-then a b c d = sym (first-snoc (a ∷ b ∷ c ∷ []) d)

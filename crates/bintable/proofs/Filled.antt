@@ -14,7 +14,7 @@ use Rattle.card.proofs.Inside.{value-inside}
 use Rattle.keyword.specs.declared.Found.{Found}
 use Rattle.keyword.specs.declared.Found.the-variants.{At, Nothing}
 use Rattle.keyword.specs.Names.{range}
-use Rattle.header.specs.Checks.{Outcome, accepted, before}
+use Rattle.header.specs.Checks.{accepted, before}
 use Rattle.tform.specs.declared.TForm.{TForm}
 use Rattle.tform.specs.Width.{countOk}
 use Rattle.tform.specs.Form.{formOf}
@@ -24,7 +24,7 @@ use Rattle.layout.specs.declared.Column.{Column}
 use Rattle.layout.specs.Layout.{noColumn, columnBytes, rowBytes}
 use Rattle.bintable.specs.Checks.{textIn, valueAt, tformOf, firstRefusal}
 use Rattle.bintable.specs.Entry.{columnCheck, columnChecks, typeIn, countIn, columnAt, columnsFrom}
-use Rattle.bintable.proofs.Checked.{before-accepted, before-assoc}
+use Rattle.bintable.proofs.Checked.{first-snoc}
 use Rattle.tform.specs.declared.TForm.the-variants as T
 
 -- ---- a form's count
@@ -46,11 +46,6 @@ range-snoc n (suc k) = ap (λ (l : List ℕ). n ∷ l) (range-snoc (suc n) k ∙
 map-snoc : {B : Type 0} (f : ℕ → B) (xs : List ℕ) (x : ℕ) → map f (xs ++ (x ∷ [])) ≡ map f xs ++ (f x ∷ [])
 map-snoc f [] x = refl
 map-snoc f (y ∷ ys) x = ap (λ l. f y ∷ l) (map-snoc f ys x)
-
-first-snoc : (xs : List Outcome) (o : Outcome) → firstRefusal (xs ++ (o ∷ [])) ≡ before (firstRefusal xs) o
-unfolding firstRefusal
-first-snoc [] o = before-accepted o
-first-snoc (x ∷ xs) o = ap (before x) (first-snoc xs o) ∙ sym (before-assoc x (firstRefusal xs) o)
 
 -- the checks of one column more
 pub checks-none : (h : List ℕ) → accepted ≡ columnChecks h 0

@@ -1,5 +1,6 @@
 // The nine names that are not numbered by column, each by checks 4, 5, 6 and 7. `first` is the header's index of first records.
 ghost use mathlib.Core.Path.{_≡_};
+ghost use mathlib.Core.List.{[], _∷_};
 ghost use Prim.Native.Nat.{_+_, _<_, _^_};
 ghost use lib.ListN.{take, drop};
 ghost use Rattle.card.specs.declared.Value.{Value};
@@ -7,7 +8,7 @@ ghost use Rattle.card.specs.Text.{bytes, same};
 ghost use Rattle.header.specs.Checks.{recordOf, indexBy, accepted};
 ghost use Rattle.layout.specs.Layout.{tfieldsLimit};
 ghost use Rattle.layout.specs.Refusal.{outcomeOf};
-ghost use Rattle.bintable.specs.Checks.{isInteger, isString, notNegative, within, textIn, firstRefusal};
+ghost use Rattle.bintable.specs.Checks.{isInteger, isString, notNegative, within, textIn, check4, check5, check6, firstRefusal};
 ghost use Rattle.bintable.specs.Entry.{required, limited, theapCheck, nine, nineChecks};
 use super::checks;
 use super::text;
@@ -18,15 +19,22 @@ use layout::NAXIS2_LIMIT;
 use layout::PCOUNT_LIMIT;
 use layout::TFIELDS_LIMIT;
 
+// A name that must be there, by 4, 5 and 6.
+fn check_required(found: Found, kind: bool, right: bool) -> Check
+    ensures { λ r. ⌜ outcomeOf r ≡ firstRefusal (check4 0 found ∷ check5 kind found ∷ check6 right found ∷ []) ⌝ }
+{
+    let c4 = checks::check4(found, 0);
+    let c5 = checks::check5(kind, found);
+    let c6 = checks::check6(right, found);
+    checks::before(c4, checks::before(c5, c6))
+}
+
 fn check_xtension(header: &[u8], found: Found) -> Check
     ensures { λ r. ⌜ outcomeOf r ≡ required (now (header .entry)) found isString (λ (v : Value). same (textIn (now (header .entry)) v) (bytes "BINTABLE")) ⌝ }
 {
     let value = checks::value_of(header, found);
     let right = card::same_bytes(text::text_of(header, value), b"BINTABLE");
-    let c4 = checks::check4(found, 0);
-    let c5 = checks::check5(checks::is_string(value), found);
-    let c6 = checks::check6(right, found);
-    checks::before(c4, checks::before(c5, c6))
+    check_required(found, checks::is_string(value), right)
 }
 
 // A name that has one value only.
@@ -34,10 +42,8 @@ fn check_fixed(header: &[u8], found: Found, n: u64) -> Check
     ensures { λ r. ⌜ outcomeOf r ≡ required (now (header .entry)) found isInteger (within n n) ⌝ }
 {
     let value = checks::value_of(header, found);
-    let c4 = checks::check4(found, 0);
-    let c5 = checks::check5(checks::is_integer(value), found);
-    let c6 = checks::check6(checks::is_within(value, n, n), found);
-    checks::before(c4, checks::before(c5, c6))
+    let right = checks::is_within(value, n, n);
+    check_required(found, checks::is_integer(value), right)
 }
 
 // A size and its limit.
@@ -45,22 +51,18 @@ fn check_size(header: &[u8], found: Found, limit: u64) -> Check
     ensures { λ r. ⌜ outcomeOf r ≡ limited (now (header .entry)) found isInteger notNegative limit ⌝ }
 {
     let value = checks::value_of(header, found);
-    let c4 = checks::check4(found, 0);
-    let c5 = checks::check5(checks::is_integer(value), found);
-    let c6 = checks::check6(checks::not_negative(value), found);
-    let c7 = checks::check7(limit, value, found);
-    checks::before(c4, checks::before(c5, checks::before(c6, c7)))
+    let right = checks::not_negative(value);
+    let c456 = check_required(found, checks::is_integer(value), right);
+    checks::before(c456, checks::check7(limit, value, found))
 }
 
 fn check_tfields(header: &[u8], found: Found) -> Check
     ensures { λ r. ⌜ outcomeOf r ≡ limited (now (header .entry)) found isInteger (within 0 999) tfieldsLimit ⌝ }
 {
     let value = checks::value_of(header, found);
-    let c4 = checks::check4(found, 0);
-    let c5 = checks::check5(checks::is_integer(value), found);
-    let c6 = checks::check6(checks::is_within(value, 0, 999), found);
-    let c7 = checks::check7(TFIELDS_LIMIT as u64, value, found);
-    checks::before(c4, checks::before(c5, checks::before(c6, c7)))
+    let right = checks::is_within(value, 0, 999);
+    let c456 = check_required(found, checks::is_integer(value), right);
+    checks::before(c456, checks::check7(TFIELDS_LIMIT as u64, value, found))
 }
 
 fn check_theap(header: &[u8], found: Found, main: u64, pcount: u64) -> Check

@@ -2,7 +2,6 @@
 -- Assumes nothing.
 use Rattle.card.specs.Text.{bytes}
 use Rattle.bintable.specs.Entry.{required}
-use Rattle.bintable.proofs.Checked.{first-three}
 use borrow.Author.Needs.{needs}
 use Rattle.bintable.proofs.keywords.check_xtension.Statement.{statement}
 use Rattle.bintable.proofs.keywords.check_xtension.Tie as tie
@@ -19,37 +18,21 @@ slice-aggregate-same-bytes c = search needs
 same-bytes-requires : tie.Need-same-bytes-requires
 same-bytes-requires c κs = search needs
 
-check4-requires : tie.Need-check4-requires
-check4-requires c κs = search needs
-
 is-string-requires : tie.Need-is-string-requires
 is-string-requires c κs = search needs
 
-check5-requires : tie.Need-check5-requires
-check5-requires c κs = search needs
-
-check6-requires : tie.Need-check6-requires
-check6-requires c κs = search needs
-
-before-requires : tie.Need-before-requires
-before-requires c κs = search needs
-
-before-requires-2 : tie.Need-before-requires-2
-before-requires-2 c κs = search needs
+check-required-requires : tie.Need-check-required-requires
+check-required-requires c κs = search needs
 
 returns : tie.Need-returns
 unfolding required bytes
 returns c = rw (
-  c .before3 .ensures,
-  c .before .before2 .ensures,
-  c .before .before .check6 .ensures,
-  c .before .before .before .check5 .ensures,
-  c .before .before .before .before .is-string .ensures,
-  c .before .before .before .before .before .check4 .ensures,
-  c .before .before .before .before .before .before .same-bytes .ensures,
-  c .before .before .before .before .before .before .before .before .text-of .ensures,
-  c .before .before .before .before .before .before .before .before .before .value-of .ensures,
-) (first-three _ _ _)
+  c .check-required .ensures,
+  c .before .is-string .ensures,
+  c .before .before .same-bytes .ensures,
+  c .before .before .before .before .text-of .ensures,
+  c .before .before .before .before .before .value-of .ensures,
+)
 
 pub check-xtension-spec : {M : Type 1} → statement M
 check-xtension-spec =
@@ -59,10 +42,6 @@ check-xtension-spec =
     text-of-requires
     slice-aggregate-same-bytes
     same-bytes-requires
-    check4-requires
     is-string-requires
-    check5-requires
-    check6-requires
-    before-requires
-    before-requires-2
+    check-required-requires
     returns)
