@@ -21,7 +21,7 @@ part-result-end : tie.Need-part-result-end
 part-result-end c = search needs
 
 returns : tie.Need-returns
-returns c = name-over _ (c .before .before .before .args .t2) (c .before .before .before .args .column) (c .before .if1 .taken)
+returns c = name-over _ (c .before .before .before .args .t2) (c .before .before .before .args .column) (omega (arith, c .before .if1 .taken))
 
 sub-result-2 : tie.Need-sub-result-2
 sub-result-2 c = search needs
@@ -49,7 +49,7 @@ part-requires : tie.Need-part-requires
 part-requires c κs = search needs
 
 returns-3 : tie.Need-returns-3
-returns-3 c = c .part .ensures ∙ name-at _ (c .before .before .before .before .before .args .t2) (c .before .before .before .before .before .args .column) (c .before .before .before .if1 .left)
+returns-3 c = c .part .ensures ∙ name-at _ (c .before .before .before .before .before .args .t2) (c .before .before .before .before .before .args .column) (omega (arith, c .before .before .before .if1 .left))
 
 pub column-name-spec : {M : Type 1} → statement M
 column-name-spec =
