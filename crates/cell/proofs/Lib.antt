@@ -1,0 +1,9 @@
+pub mod Widths
+pub mod Same
+pub mod Kept
+pub mod Numbers
+pub mod Signed
+pub mod Nan
+pub mod Arrays
+pub mod Values
+pub mod Inside

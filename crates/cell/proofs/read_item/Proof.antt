@@ -1,0 +1,240 @@
+-- `read_item` meets its contract: one case for each type.
+-- Assumes nothing.
+use mathlib.Core.Path.{_≡_, _∙_, sym, ap}
+use lib.Ieee.{binary32, binary64}
+use mir.Syntax.{w16, w32, w64}
+use mir.Val.{toZ}
+use mir.ValLaws.{toZ-ofZ}
+use Rattle.tform.specs.declared.VariableArrayTy.{VariableArrayTy}
+use Rattle.cell.specs.declared.DataValue.the-variants as D
+use Rattle.cell.specs.Item.{logical, item}
+use Rattle.cell.proofs.Numbers.{word-one, word-here}
+use Rattle.cell.proofs.Values.{one, two}
+use borrow.Author.Needs.{needs}
+use Rattle.cell.proofs.read_item.Statement.{statement}
+use Rattle.cell.proofs.read_item.Tie as tie
+
+-- what the contract promises, in an arm that knows the type
+whole : (c : tie.Start) (t : VariableArrayTy) → c .args .ty ≡ t
+    → item (c .args .column) t (c .args .area .now) (c .args .at) ≡ item (c .args .column) (c .args .ty) (c .args .area .now) (c .args .at)
+whole c t e = sym (ap (λ (s : VariableArrayTy). item (c .args .column) s (c .args .area .now) (c .args .at)) e)
+
+enum-told : tie.Need-enum-told
+enum-told c = search needs
+
+byte-requires : tie.Need-byte-requires
+byte-requires c κs = search needs
+
+read-logical-requires : tie.Need-read-logical-requires
+read-logical-requires c κs = search needs
+
+enum-told-2 : tie.Need-enum-told-2
+enum-told-2 c = search needs
+
+byte-requires-2 : tie.Need-byte-requires-2
+byte-requires-2 c κs = search needs
+
+enum-told-3 : tie.Need-enum-told-3
+enum-told-3 c = search needs
+
+byte-requires-3 : tie.Need-byte-requires-3
+byte-requires-3 c κs = search needs
+
+enum-told-4 : tie.Need-enum-told-4
+enum-told-4 c = search needs
+
+u16-at-requires : tie.Need-u16-at-requires
+u16-at-requires c κs = search needs
+
+signed16-requires : tie.Need-signed16-requires
+signed16-requires c κs = search needs
+
+enum-told-5 : tie.Need-enum-told-5
+enum-told-5 c = search needs
+
+u32-at-requires : tie.Need-u32-at-requires
+u32-at-requires c κs = search needs
+
+signed32-requires : tie.Need-signed32-requires
+signed32-requires c κs = search needs
+
+enum-told-6 : tie.Need-enum-told-6
+enum-told-6 c = search needs
+
+u64-at-requires : tie.Need-u64-at-requires
+u64-at-requires c κs = search needs
+
+signed64-requires : tie.Need-signed64-requires
+signed64-requires c κs = search needs
+
+enum-told-7 : tie.Need-enum-told-7
+enum-told-7 c = search needs
+
+byte-requires-4 : tie.Need-byte-requires-4
+byte-requires-4 c κs = search needs
+
+enum-told-8 : tie.Need-enum-told-8
+enum-told-8 c = search needs
+
+u32-at-requires-2 : tie.Need-u32-at-requires-2
+u32-at-requires-2 c κs = search needs
+
+single-requires : tie.Need-single-requires
+single-requires c κs = search needs
+
+enum-told-9 : tie.Need-enum-told-9
+enum-told-9 c = search needs
+
+u64-at-requires-2 : tie.Need-u64-at-requires-2
+u64-at-requires-2 c κs = search needs
+
+double-requires : tie.Need-double-requires
+double-requires c κs = search needs
+
+enum-told-10 : tie.Need-enum-told-10
+enum-told-10 c = search needs
+
+u32-at-requires-3 : tie.Need-u32-at-requires-3
+u32-at-requires-3 c κs = search needs
+
+u32-at-requires-4 : tie.Need-u32-at-requires-4
+u32-at-requires-4 c κs = search needs
+
+single-requires-2 : tie.Need-single-requires-2
+single-requires-2 c κs = search needs
+
+single-requires-3 : tie.Need-single-requires-3
+single-requires-3 c κs = search needs
+
+enum-told-11 : tie.Need-enum-told-11
+enum-told-11 c = search needs
+
+u64-at-requires-3 : tie.Need-u64-at-requires-3
+u64-at-requires-3 c κs = search needs
+
+u64-at-requires-4 : tie.Need-u64-at-requires-4
+u64-at-requires-4 c κs = search needs
+
+double-requires-2 : tie.Need-double-requires-2
+double-requires-2 c κs = search needs
+
+double-requires-3 : tie.Need-double-requires-3
+double-requires-3 c κs = search needs
+
+returns : tie.Need-returns
+unfolding item
+returns c =
+    ap D.Logical (c .read-logical .ensures ∙ ap logical (word-one _ _ (c .before .byte .ensures)))
+    ∙ whole (c .before .before .before .before .before) _ (c .before .before .enum-told .given .1)
+
+returns-2 : tie.Need-returns-2
+unfolding item
+returns-2 c =
+    ap D.Bit (word-one _ _ (c .byte2 .ensures))
+    ∙ whole (c .before .before .before .before) _ (c .before .enum-told2 .given .1)
+
+returns-3 : tie.Need-returns-3
+unfolding item
+returns-3 c =
+    ap D.UnsignedByte (word-one _ _ (c .byte3 .ensures))
+    ∙ whole (c .before .before .before .before) _ (c .before .enum-told3 .given .1)
+
+returns-4 : tie.Need-returns-4
+unfolding item
+returns-4 c =
+    ap D.Short (toZ-ofZ w16 _ (record { sfits = c .signed16 .ok }) ∙ c .signed16 .ensures ∙ ap (toZ w16) (word-here _ _ 2 (c .before .u16-at .ensures)))
+    ∙ whole (c .before .before .before .before .before) _ (c .before .before .enum-told4 .given .1)
+
+returns-5 : tie.Need-returns-5
+unfolding item
+returns-5 c =
+    ap D.Integer (toZ-ofZ w32 _ (record { sfits = c .signed32 .ok }) ∙ c .signed32 .ensures ∙ ap (toZ w32) (word-here _ _ 4 (c .before .u32-at .ensures)))
+    ∙ whole (c .before .before .before .before .before) _ (c .before .before .enum-told5 .given .1)
+
+returns-6 : tie.Need-returns-6
+unfolding item
+returns-6 c =
+    ap D.Long (toZ-ofZ w64 _ (record { sfits = c .signed64 .ok }) ∙ c .signed64 .ensures ∙ ap (toZ w64) (word-here _ _ 8 (c .before .u64-at .ensures)))
+    ∙ whole (c .before .before .before .before .before) _ (c .before .before .enum-told6 .given .1)
+
+returns-7 : tie.Need-returns-7
+unfolding item
+returns-7 c =
+    ap D.Character (word-one _ _ (c .byte4 .ensures))
+    ∙ whole (c .before .before .before .before) _ (c .before .enum-told7 .given .1)
+
+returns-8 : tie.Need-returns-8
+unfolding item
+returns-8 c =
+    one binary32 D.Float (c .single .ensures) (word-here _ _ 4 (c .before .u32-at2 .ensures))
+    ∙ whole (c .before .before .before .before .before) _ (c .before .before .enum-told8 .given .1)
+
+returns-9 : tie.Need-returns-9
+unfolding item
+returns-9 c =
+    one binary64 D.Double (c .double .ensures) (word-here _ _ 8 (c .before .u64-at2 .ensures))
+    ∙ whole (c .before .before .before .before .before) _ (c .before .before .enum-told9 .given .1)
+
+returns-10 : tie.Need-returns-10
+unfolding item
+returns-10 c =
+    two binary32 D.ComplexFloat (c .before .single2 .ensures) (word-here _ _ 4 (c .before .before .before .u32-at3 .ensures))
+    (c .single3 .ensures) (c .before .before .u32-at4 .ensures)
+    ∙ whole (c .before .before .before .before .before .before .before) _ (c .before .before .before .before .enum-told10 .given .1)
+
+returns-11 : tie.Need-returns-11
+unfolding item
+returns-11 c =
+    two binary64 D.ComplexDouble (c .before .double2 .ensures) (word-here _ _ 8 (c .before .before .before .u64-at3 .ensures))
+    (c .double3 .ensures) (c .before .before .u64-at4 .ensures)
+    ∙ whole (c .before .before .before .before .before .before .before) _ (c .before .before .before .before .enum-told11 .given .1)
+
+pub read-item-spec : {M : Type 1} → statement M
+read-item-spec =
+    tie.close
+    (tie.spec
+    enum-told
+    byte-requires
+    read-logical-requires
+    enum-told-2
+    byte-requires-2
+    enum-told-3
+    byte-requires-3
+    enum-told-4
+    u16-at-requires
+    signed16-requires
+    enum-told-5
+    u32-at-requires
+    signed32-requires
+    enum-told-6
+    u64-at-requires
+    signed64-requires
+    enum-told-7
+    byte-requires-4
+    enum-told-8
+    u32-at-requires-2
+    single-requires
+    enum-told-9
+    u64-at-requires-2
+    double-requires
+    enum-told-10
+    u32-at-requires-3
+    u32-at-requires-4
+    single-requires-2
+    single-requires-3
+    enum-told-11
+    u64-at-requires-3
+    u64-at-requires-4
+    double-requires-2
+    double-requires-3
+    returns
+    returns-2
+    returns-3
+    returns-4
+    returns-5
+    returns-6
+    returns-7
+    returns-8
+    returns-9
+    returns-10
+    returns-11)

@@ -1,0 +1,107 @@
+-- The choice as bits: which columns a selection's choice has, and how a choice is cut down column by column.
+-- Assumes nothing.
+use Prim.Native.Nat.{ℕ, zero, suc, _+_, _-_, _*_, _/_, _%_, _^_, _<_, _≤_}
+use mathlib.Core.Path.{_≡_, refl, sym, ap, _∙_}
+use mathlib.Core.Logic.{_≢_}
+use mathlib.Core.Bool.{Bool, true, false, cond, _&&_, and-true, false≢true}
+use native.Mathlib.Nat.{add-zero, zero-add, add-suc, suc-add, pow-succ', pow-zero, div-one, div-div-eq-div-mul, div-eq-of-lt, div-lt-iff-lt-mul, one-mul, lt-of-lt-of-le}
+use native.Mathlib.Omega.{arith}
+use lib.Dec.{eqb, ltb}
+use lib.Pow.{pow-pos, pow-mono}
+use borrow.Author.Tests.{ltb-true, lt-ltb, ltb-false, le-ltb, eqb-false}
+use Rattle.card.proofs.Cases.{by-test, both, either}
+use Rattle.layout.specs.declared.BinTable.{BinTable}
+use Rattle.walk.specs.Plain.{chosen}
+use Rattle.walk.specs.Step.{Selection, wanted, choiceOk, choiceFrom, choiceOf}
+
+-- bit 0, and the bits above it
+chosen-zero : (m : ℕ) → chosen m 0 ≡ eqb (m % 2) 1
+unfolding chosen
+chosen-zero m = rw (pow-zero, div-one)
+
+chosen-suc : (m c : ℕ) → chosen m (suc c) ≡ chosen (m / 2) c
+unfolding chosen
+chosen-suc m c = rw (pow-succ' 2 c, ← div-div-eq-div-mul m 2 (2 ^ c))
+
+-- a bit above all
+pub unchosen : (m c : ℕ) → m < 2 ^ c → chosen m c ≡ false
+unfolding chosen
+unchosen m c h = rw (div-eq-of-lt h)
+
+half : (t : Bool) (x : ℕ) → (cond t 1 0 + 2 * x) / 2 ≡ x
+half true x = omega arith
+half false x = omega arith
+
+odd : (t : Bool) (x : ℕ) → eqb ((cond t 1 0 + 2 * x) % 2) 1 ≡ t
+odd true x = let e : (1 + 2 * x) % 2 ≡ 1 = omega arith in rw e
+odd false x = let e : (0 + 2 * x) % 2 ≡ 0 = omega arith in rw e
+
+ltb-suc : (k n : ℕ) → ltb (suc k) (suc n) ≡ ltb k n
+ltb-suc k n =
+    either (ltb k n) (λ e. lt-ltb (suc k) (suc n) (omega (arith, ltb-true k n e)) ∙ sym e)
+    (λ e. le-ltb (suc k) (suc n) (omega (arith, ltb-false k n e)) ∙ sym e)
+
+-- column c + k is in the choice from column c on if it is one of the n and wanted
+chosen-from : (sel : Selection) (c n k : ℕ) → chosen (choiceFrom sel c n) k ≡ (ltb k n && wanted sel (c + k))
+unfolding choiceFrom
+chosen-from sel c zero k = rw (le-ltb k 0 (omega arith)) (unchosen 0 k (pow-pos k))
+chosen-from sel c (suc n) zero = rw (chosen-zero, odd (wanted sel c) (choiceFrom sel (suc c) n), add-zero, lt-ltb 0 (suc n) (omega arith))
+chosen-from sel c (suc n) (suc k) =
+    rw (chosen-suc, half (wanted sel c) (choiceFrom sel (suc c) n), ltb-suc k n, add-suc c k, ← suc-add c k) (chosen-from sel (suc c) n k)
+
+-- a selection's choice has the layout's columns that are wanted
+pub chosen-of : (l : BinTable) (sel : Selection) (c : ℕ) → chosen (choiceOf l sel) c ≡ (ltb c (l .tfields) && wanted sel c)
+chosen-of l sel c = rw zero-add at (chosen-from sel 0 (l .tfields) c)
+
+-- and no bit above them
+pub choice-below : (sel : Selection) (c n : ℕ) → choiceFrom sel c n < 2 ^ n
+unfolding choiceFrom
+choice-below sel c zero = rw pow-zero (omega arith)
+choice-below sel c (suc n) =
+    rw (pow-succ' 2 n)
+    (by-test (λ (b : ℕ). b + 2 * choiceFrom sel (suc c) n < 2 * 2 ^ n) (wanted sel c)
+    (λ e. omega (arith, choice-below sel (suc c) n)) (λ e. omega (arith, choice-below sel (suc c) n)))
+
+-- a choice that belongs has only columns of the layout
+pub choice-columns : (l : BinTable) (m c : ℕ) → choiceOk l m ≡ true → chosen m c ≡ true → c < l .tfields
+unfolding choiceOk
+choice-columns l m c ok e =
+    either (ltb c (l .tfields)) (λ t. ltb-true c (l .tfields) t)
+    (λ t.
+    absurd (false≢true (sym (unchosen m c (lt-of-lt-of-le (ltb-true m _ (both (ltb 0 m) (ltb m (2 ^ l .tfields)) ok .1)) (pow-mono (ltb-false c (l .tfields) t)))) ∙ e)))
+
+-- and at least one of them
+some-chosen : (n m : ℕ) → 0 < m → m < 2 ^ n → (c : ℕ) × (chosen m c ≡ true)
+some-chosen zero m h u = absurd (omega (arith, h, rw pow-zero at u))
+some-chosen (suc n) m h u =
+    either (eqb (m % 2) 1) (λ e. (0, chosen-zero m ∙ e))
+    (λ e.
+    let q : m % 2 ≢ 1 = eqb-false (m % 2) 1 e in
+    let rest = some-chosen n (m / 2) (omega (arith, q, h)) (omega (arith, rw (pow-succ' 2 n) at u)) in
+    (suc (rest .0), chosen-suc m (rest .0) ∙ rest .1))
+
+pub choice-some : (l : BinTable) (m : ℕ) → choiceOk l m ≡ true → (c : ℕ) × (chosen m c ≡ true)
+unfolding choiceOk
+choice-some l m ok = some-chosen (l .tfields) m (ltb-true 0 m (both (ltb 0 m) (ltb m (2 ^ l .tfields)) ok .0)) (ltb-true m _ (both (ltb 0 m) (ltb m (2 ^ l .tfields)) ok .1))
+
+-- ---- for the code
+
+-- the choice of the columns from c on, and from the next one on
+pub choice-step : (sel : Selection) (n c : ℕ) → c < n → choiceFrom sel c (n - c) ≡ cond (wanted sel c) 1 0 + 2 * choiceFrom sel (suc c) (n - suc c)
+unfolding choiceFrom
+choice-step sel n c h = let e : n - c ≡ suc (n - suc c) = omega arith in rw e
+
+pub choice-end : (sel : Selection) (c : ℕ) → choiceFrom sel c 0 ≡ 0
+unfolding choiceFrom
+choice-end sel c = refl
+
+-- a selection's choice belongs if it has a column at all
+pub choice-any : (l : BinTable) (sel : Selection) → choiceOk l (choiceOf l sel) ≡ ltb 0 (choiceOf l sel)
+unfolding choiceOk
+choice-any l sel = rw (lt-ltb _ _ (choice-below sel 0 (l .tfields)), and-true)
+
+-- no bit above the columns
+pub shift-below : (m n : ℕ) → m / 2 ^ n ≡ 0 → m < 2 ^ n
+shift-below m n e =
+    let h : m / 2 ^ n < 1 = omega (arith, e) in
+    rw one-mul at (div-lt-iff-lt-mul (pow-pos n) .0 h)

@@ -1,0 +1,4 @@
+pub mod Plain
+pub mod Walk
+pub mod Step
+pub mod Agree
