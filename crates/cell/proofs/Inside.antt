@@ -3,7 +3,7 @@
 use Prim.Native.Nat.{ℕ, _+_, _*_, _≤_}
 use mathlib.Core.Bool.{Bool}
 use mathlib.Core.List.{List}
-use native.Mathlib.Nat.{mul-le-mul-left}
+use native.Mathlib.Nat.{mul-le-mul-left, le-trans}
 use native.Mathlib.Omega.{arith}
 use lib.Dec.{eqb, leb}
 use borrow.Author.Tests.{leb-true}
@@ -47,3 +47,8 @@ pub size-bound : (end : ℕ) (f : Field) → ItemsInside end f → sizeOf f ≤ 
 size-bound end (Items ty at n) h = omega (arith, h, mul-le-mul-left n (width-pos ty))
 size-bound end (Descriptor v) h = omega arith
 size-bound end OutsideHeap h = omega arith
+
+pub inside-wider : (m n : ℕ) (f : Field) → m ≤ n → ItemsInside m f → ItemsInside n f
+inside-wider m n (Items ty at k) h i = le-trans i h
+inside-wider m n (Descriptor v) h i = tt
+inside-wider m n OutsideHeap h i = tt

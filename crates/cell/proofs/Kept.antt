@@ -1,17 +1,17 @@
 -- Each float of an item's value, and of a descriptor's, is the float of the bits beside it.
 -- Assumes nothing.
 use Prim.Native.Nat.{ℕ, _+_, _*_}
-use lib.Dec.{eqb, leb}
 use mathlib.Core.Path.{_≡_, refl, subst}
 use mathlib.Core.Bool.{Bool}
 use mathlib.Core.List.{List}
+use lib.Dec.{eqb, leb}
+use Rattle.card.proofs.Cases.{by-test}
 use Rattle.tform.specs.declared.VariableArrayTy.{VariableArrayTy}
 use Rattle.tform.specs.declared.VariableArrayTy.the-variants as T
 use Rattle.tform.specs.declared.TFormType.{TFormType}
 use Rattle.tform.specs.declared.TFormType.the-variants as F
 use Rattle.tform.specs.Width.{items}
 use Rattle.layout.specs.declared.Column.{Column}
-use Rattle.card.proofs.Cases.{by-test}
 use Rattle.cell.specs.declared.DataValue.{DataValue}
 use Rattle.cell.specs.declared.Field.{Field}
 use Rattle.cell.specs.declared.Field.the-variants.{Items, Descriptor, OutsideHeap}

@@ -1,8 +1,8 @@
 -- Which patterns are a NaN's, by one comparison of numbers, at either format.
 -- Assumes nothing.
+use Prim.Native.Nat.{ℕ, _*_, _%_, _<_, _≤_}
 use mathlib.Core.Path.{_≡_, refl, sym, _∙_}
 use mathlib.Core.Bool.{true, not}
-use Prim.Native.Nat.{ℕ, _*_, _%_, _<_, _≤_}
 use lib.Dec.{T}
 use lib.Ieee.{Float, nan, inf, fin, Format, binary32, binary64, ofBits, nanBits, isNan, div, ones, hid, top}
 use lib.Ieee.Bits.{nanBits-is, nanBits-above}

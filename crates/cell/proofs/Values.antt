@@ -1,7 +1,7 @@
--- Floats and pairs of them, of bits that are known: congruence in a small context.
+-- What is made of floats or of numbers that are known: congruence in a small context.
 -- Assumes nothing.
-use mathlib.Core.Path.{_≡_}
 use Prim.Native.Nat.{ℕ}
+use mathlib.Core.Path.{_≡_}
 use lib.Ieee.{Float, Format, ofBits}
 
 module _ {X : Type 0} (f : Format) where
@@ -14,3 +14,6 @@ module _ {X : Type 0} (f : Format) where
 
 pub both : {X : Type 0} (make : ℕ → ℕ → X) {b b′ n n′ : ℕ} → b ≡ n → b′ ≡ n′ → make b b′ ≡ make n n′
 both make p q = cc
+
+pub made : {X : Type 0} (make : ℕ → ℕ → X) {x : X} {b b′ n n′ : ℕ} → x ≡ make b b′ → b ≡ n → b′ ≡ n′ → x ≡ make n n′
+made make h p q = cc

@@ -3,16 +3,20 @@
 use Prim.Native.Nat.{ℕ, zero, suc, _+_, _-_, _*_, _/_, _%_, _^_, _<_, _≤_}
 use mathlib.Core.Path.{_≡_, refl, sym, ap, _∙_}
 use mathlib.Core.Logic.{_≢_}
+use mathlib.Core.List.{List}
 use mathlib.Core.Bool.{Bool, true, false, cond, _&&_, and-true, false≢true}
-use native.Mathlib.Nat.{add-zero, zero-add, add-suc, suc-add, pow-succ', pow-zero, div-one, div-div-eq-div-mul, div-eq-of-lt, div-lt-iff-lt-mul, one-mul, lt-of-lt-of-le}
+use native.Mathlib.Nat.{add-zero, zero-add, add-suc, suc-add, pow-succ', pow-zero, div-one, div-div-eq-div-mul, div-eq-of-lt, div-lt-iff-lt-mul, one-mul, lt-of-lt-of-le, not-le-of-lt}
+use native.Mathlib.Numerals.{add-one}
 use native.Mathlib.Omega.{arith}
 use lib.Dec.{eqb, ltb}
+use lib.ListN.{length, getD, drop, drop-of-length-le}
+use lib.Seq.{drop-cons}
 use lib.Pow.{pow-pos, pow-mono}
-use borrow.Author.Tests.{ltb-true, lt-ltb, ltb-false, le-ltb, eqb-false}
+use borrow.Author.Tests.{ltb-true, lt-ltb, ltb-false, le-ltb, eqb-false, eq-eqb, ne-eqb}
 use Rattle.card.proofs.Cases.{by-test, both, either}
 use Rattle.layout.specs.declared.BinTable.{BinTable}
 use Rattle.walk.specs.Plain.{chosen}
-use Rattle.walk.specs.Step.{Selection, wanted, choiceOk, choiceFrom, choiceOf}
+use Rattle.walk.specs.Step.{Selection, among, wanted, choiceOk, choiceFrom, choiceOf}
 
 -- bit 0, and the bits above it
 chosen-zero : (m : ℕ) → chosen m 0 ≡ eqb (m % 2) 1
@@ -86,22 +90,47 @@ choice-some l m ok = some-chosen (l .tfields) m (ltb-true 0 m (both (ltb 0 m) (l
 
 -- ---- for the code
 
--- the choice of the columns from c on, and from the next one on
-pub choice-step : (sel : Selection) (n c : ℕ) → c < n → choiceFrom sel c (n - c) ≡ cond (wanted sel c) 1 0 + 2 * choiceFrom sel (suc c) (n - suc c)
+-- the choice of the columns from c on, and with the one before c
+pub choice-back : (sel : Selection) (n c : ℕ) → 0 < c → c ≤ n
+    → choiceFrom sel (c - 1) (n - (c - 1)) ≡ cond (wanted sel (c - 1)) 1 0 + 2 * choiceFrom sel c (n - c)
 unfolding choiceFrom
-choice-step sel n c h = let e : n - c ≡ suc (n - suc c) = omega arith in rw e
+choice-back sel n c h k =
+    let e : n - (c - 1) ≡ suc (n - c) = omega arith in
+    let q : suc (c - 1) ≡ c = omega arith in
+    rw (e, q)
 
-pub choice-end : (sel : Selection) (c : ℕ) → choiceFrom sel c 0 ≡ 0
+pub choice-end : (sel : Selection) (n : ℕ) → choiceFrom sel n (n - n) ≡ 0
 unfolding choiceFrom
-choice-end sel c = refl
+choice-end sel n = let e : n - n ≡ 0 = omega arith in rw e
+
+-- the choice of 63 columns at most leaves a bit of 64
+pub choice-room : (sel : Selection) (n c : ℕ) → 0 < c → c ≤ n → n ≤ 64 → choiceFrom sel c (n - c) < 9223372036854775808
+choice-room sel n c h k l = lt-of-lt-of-le (choice-below sel c (n - c)) (pow-mono {i = n - c} {j = 63} (omega arith))
 
 -- a selection's choice belongs if it has a column at all
 pub choice-any : (l : BinTable) (sel : Selection) → choiceOk l (choiceOf l sel) ≡ ltb 0 (choiceOf l sel)
 unfolding choiceOk
 choice-any l sel = rw (lt-ltb _ _ (choice-below sel 0 (l .tfields)), and-true)
 
--- no bit above the columns
-pub shift-below : (m n : ℕ) → m / 2 ^ n ≡ 0 → m < 2 ^ n
-shift-below m n e =
-    let h : m / 2 ^ n < 1 = omega (arith, e) in
-    rw one-mul at (div-lt-iff-lt-mul (pow-pos n) .0 h)
+-- no bit from column n on
+pub shift-test : (m n : ℕ) → eqb (m / 2 ^ n) 0 ≡ ltb m (2 ^ n)
+shift-test m n =
+    either (ltb m (2 ^ n)) (λ e. ap (λ (x : ℕ). eqb x 0) (div-eq-of-lt (ltb-true m (2 ^ n) e)) ∙ sym e)
+    (λ e. ne-eqb (m / 2 ^ n) 0 (λ q. not-le-of-lt (below q) (ltb-false m (2 ^ n) e)) ∙ sym e)
+  where
+    below : m / 2 ^ n ≡ 0 → m < 2 ^ n
+    below q = let h : m / 2 ^ n < 1 = omega (arith, q) in rw one-mul at (div-lt-iff-lt-mul (pow-pos n) .0 h)
+
+-- a list of indexes, looked through from its front
+module _ (c : ℕ) (is : List ℕ) (i : ℕ) (h : i < length is) where
+  pub among-here : getD is i 0 ≡ c → among c (drop i is) ≡ true
+  unfolding among
+  among-here e = rw (drop-cons is i 0 h, e, eq-eqb c c refl)
+
+  pub among-next : getD is i 0 ≢ c → among c (drop i is) ≡ among c (drop (i + 1) is)
+  unfolding among
+  among-next n = rw (add-one i, drop-cons is i 0 h, ne-eqb c (getD is i 0) (λ e. n (sym e)))
+
+pub among-end : (c : ℕ) (is : List ℕ) (i : ℕ) → length is ≤ i → among c (drop i is) ≡ false
+unfolding among
+among-end c is i h = rw (drop-of-length-le is {i = i} h)

@@ -2,8 +2,8 @@
 -- entries fits 64 bits.
 -- Assumes nothing.
 use Prim.Native.Nat.{ℕ, zero, suc, _+_, _*_, _≤_, _<_}
-use mathlib.Core.Path.{_≡_, refl}
-use mathlib.Core.Bool.{Bool, true, false, _&&_}
+use mathlib.Core.Path.{_≡_}
+use mathlib.Core.Bool.{Bool, true, _&&_}
 use mathlib.Core.List.{List, [], _∷_}
 use native.Mathlib.Nat.{mul-le-mul-right, mul-le-mul-left, not-suc-le-zero, le-of-suc-le-suc, le-trans}
 use native.Mathlib.Omega.{arith}
@@ -14,9 +14,9 @@ use Rattle.card.proofs.Cases.{by-test, both}
 use Rattle.tform.specs.Width.{countOk}
 use Rattle.layout.specs.declared.Column.{Column}
 use Rattle.layout.specs.declared.BinTable.{BinTable}
-use Rattle.layout.specs.Layout.{naxis1Limit, naxis2Limit, pcountLimit, tfieldsLimit, noColumn, columnBytes, columnsOf, mainSize, dataSize, columnsOk, layoutOk}
+use Rattle.layout.specs.Layout.{noColumn, columnBytes, columnsOf, mainSize, dataSize, columnsOk, layoutOk}
 use Rattle.cell.specs.Field.{ItemsInside}
-use Rattle.cell.proofs.Inside.{field-inside, size-bound}
+use Rattle.cell.proofs.Inside.{field-inside, inside-wider, size-bound}
 use Rattle.walk.specs.declared.Entry.{Entry}
 use Rattle.walk.specs.Plain.{columnOf, fieldAt, fieldOf, chosen, columnSize, columnsEntries, rowEntries}
 use Rattle.walk.specs.Step.{fits}
@@ -88,9 +88,13 @@ module _ (l : BinTable) (ok : layoutOk l ≡ true) where
   pub column-in-row : (c : ℕ) → c < l .tfields → columnOf l c .start + columnBytes (columnOf l c) ≤ l .naxis1
   column-in-row c h = column-inside (l .naxis1) 0 (l .columns) (l .tfields) c (limits l ok .sums) h
 
-  -- and its field in a row inside the main table
+  -- a row lies inside the main table
+  pub row-in-main : (r : ℕ) → r < l .naxis2 → r * l .naxis1 + l .naxis1 ≤ mainSize l
+  row-in-main r h = omega (arith, mul-le-mul-right (l .naxis1) h)
+
+  -- and so does a field
   pub field-in-main : (r c : ℕ) → r < l .naxis2 → c < l .tfields → fieldAt l r c + columnBytes (columnOf l c) ≤ mainSize l
-  field-in-main r c hr hc = omega (arith, column-in-row c hc, mul-le-mul-right (l .naxis1) hr)
+  field-in-main r c hr hc = omega (arith, column-in-row c hc, row-in-main r hr)
 
   -- the items of a field lie inside the data
   pub items-in-data : (a : List ℕ) (heap : Bool) (r c : ℕ) → r < l .naxis2 → c < l .tfields → ItemsInside (dataSize l) (fieldOf l a heap r c)
@@ -103,6 +107,10 @@ module _ (l : BinTable) (ok : layoutOk l ≡ true) where
   data-bound =
       let lim = limits l ok in
       omega (arith, lim .heap-bytes, mul-le-mul-right (l .naxis2) (lim .row-bytes), mul-le-mul-left 1048576 (lim .rows))
+
+  -- so no place of an item wraps
+  pub items-bound : (a : List ℕ) (heap : Bool) (r c : ℕ) → r < l .naxis2 → c < l .tfields → ItemsInside 17594333528063 (fieldOf l a heap r c)
+  items-bound a heap r c hr hc = inside-wider (dataSize l) 17594333528063 (fieldOf l a heap r c) data-bound (items-in-data a heap r c hr hc)
 
   -- ---- how many entries there are at most
 

@@ -1,9 +1,9 @@
 -- Two data areas that agree and are not the same: they differ in their lengths, in a column that is not chosen, in the gap before the heap, in
 -- heap bytes that no descriptor names, and where an array that is not sound would lie.
 -- Assumes nothing.
-use Prim.Native.Nat.{ℕ, zero, suc, _+_, _≤_, _<_}
+use Prim.Native.Nat.{ℕ, zero, suc, _+_, _<_}
 use mathlib.Core.Path.{_≡_, refl}
-use mathlib.Core.Bool.{Bool, true, false, _&&_, false≢true}
+use mathlib.Core.Bool.{Bool, true, _&&_, false≢true}
 use mathlib.Core.List.{List, [], _∷_}
 use native.Mathlib.Nat.{not-suc-le-zero, le-of-suc-le-suc}
 use native.Mathlib.Omega.{arith}
@@ -21,7 +21,7 @@ use Rattle.layout.specs.declared.Column.{Column}
 use Rattle.layout.specs.declared.BinTable.{BinTable}
 use Rattle.layout.specs.Layout.{noColumn, columnBytes, columnsOk, layoutOk}
 use Rattle.cell.specs.Item.{word}
-use Rattle.cell.specs.Field.{array, field32, field64, field}
+use Rattle.cell.specs.Field.{array, field32, field}
 use Rattle.walk.specs.Plain.{columnOf, fieldAt, fieldOf, chosen}
 use Rattle.walk.specs.Step.{fits}
 use Rattle.walk.specs.Agree.{Same, SameItems, Agree}

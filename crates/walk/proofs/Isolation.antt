@@ -5,13 +5,12 @@ use Prim.Native.Nat.{ℕ}
 use mathlib.Core.Path.{_≡_, refl, sym, ap, subst, _∙_}
 use mathlib.Core.Bool.{Bool, true, false, cond}
 use mathlib.Core.List.{List, map}
-use lib.Dec.{leb}
 use lib.ListN.{length}
 use borrow.Author.Tests.{le-leb}
 use Rattle.header.specs.Checks as H
 use Rattle.layout.specs.declared.BinTable.{BinTable}
-use Rattle.layout.specs.Layout.{dataSize, layoutOk}
-use Rattle.bintable.specs.Entry.{accepted, entry, layoutOf}
+use Rattle.layout.specs.Layout.{dataSize}
+use Rattle.bintable.specs.Entry.{accepted, entry}
 use Rattle.bintable.proofs.Kept.{entry-layout, entry-ok, entry-long}
 use Rattle.walk.specs.declared.TableData.{TableData}
 use Rattle.walk.specs.declared.Entry.{Entry}

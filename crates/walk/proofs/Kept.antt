@@ -2,7 +2,7 @@
 -- Assumes nothing.
 use Prim.Native.Nat.{ℕ, zero, suc, _+_, _*_}
 use mathlib.Core.Path.{_≡_, refl}
-use mathlib.Core.Bool.{Bool, true, false, cond}
+use mathlib.Core.Bool.{Bool}
 use mathlib.Core.List.{List, [], _∷_, _++_}
 use lib.Dec.{leb, ltb}
 use lib.ListN.{length, getD, take, drop}
@@ -21,8 +21,8 @@ use Rattle.walk.specs.declared.TableData.{TableData}
 use Rattle.walk.specs.declared.Entry.{Entry}
 use Rattle.walk.specs.declared.Entry.the-variants as E
 use Rattle.walk.specs.Plain.{columnOf, fieldAt, fieldOf, itemAt, cells, entriesOf, chosen, columnEntries, columnsEntries, rowEntries}
-use Rattle.walk.specs.Walk.{Step, readCell, readRow, seek, State, Outcome, Reply, gotCell, gotRow, sought, atEnd, refused, Next, entryAt, noEntry, Gathered, allCells, outside, before, gather, next, nextEntry, rest, cellOutcome, rowOutcome, entryOutcome, walkStep}
-use Rattle.walk.specs.Step.{belongs, stateOf, Result, shown, cursorStep}
+use Rattle.walk.specs.Walk.{Step, readCell, readRow, seek, State, Outcome, Reply, gotCell, gotRow, sought, atEnd, refused, Next, entryAt, noEntry, Gathered, allCells, outside, before, gather, next, nextEntry, rest, cellOutcome, rowOutcome, walkStep}
+use Rattle.walk.specs.Step.{belongs, stateOf, Result, cursorStep}
 
 abbrev EntryKept : Entry → Type 0
 EntryKept (E.Cell c) = BitsKept (c .value)

@@ -2,13 +2,16 @@
 -- Assumes nothing.
 use Prim.Native.Nat.{ℕ, zero, suc, _+_, _-_, _≤_, _<_}
 use mathlib.Core.Path.{_≡_, refl, ap, _∙_}
+use mathlib.Core.Logic.{_≢_}
 use mathlib.Core.Bool.{Bool, true, false, cond}
-use mathlib.Core.List.{List, [], _∷_, _++_}
+use mathlib.Core.List.{List, [], _++_}
 use native.Mathlib.Nat.{add-zero, add-suc, suc-add, zero-add, not-suc-le-zero, le-of-suc-le-suc}
 use native.Mathlib.Omega.{arith}
-use lib.ListN.{length, getD, drop, length-append, List·getD-append}
+use lib.ListN.{length, getD, length-append, List·getD-append}
 use lib.Seq.{getD-append-add}
-use borrow.Author.Tests.{lt-ltb, le-ltb}
+use lib.Dec.{eqb, ltb}
+use borrow.Author.Tests.{ltb-true, lt-ltb, le-ltb, eq-eqb, ne-eqb}
+use Rattle.card.proofs.Cases.{by-test}
 use Rattle.layout.specs.declared.Column.{Column}
 use Rattle.layout.specs.declared.BinTable.{BinTable}
 use Rattle.cell.specs.declared.DataValue.{DataValue}
@@ -18,7 +21,7 @@ use Rattle.cell.specs.Field.{sizeOf}
 use Rattle.walk.specs.declared.Entry.{Entry}
 use Rattle.walk.specs.declared.Entry.the-variants as E
 use Rattle.walk.specs.Plain.{columnOf, fieldOf, cellOf, itemAt, cells, entriesOf, entryIn, chosen, columnEntries, columnSize, columnsEntries, rowEntries}
-use Rattle.walk.specs.Walk.{Next, entryAt, noEntry, next}
+use Rattle.walk.specs.Walk.{Next, entryAt, noEntry, next, placeOk}
 
 -- f of a choice
 map-test {ℓ κ} : {A : Type ℓ} {B : Type κ} (f : A → B) (t : Bool) {x y : A} {u v : B} → f x ≡ u → f y ≡ v → f (cond t x y) ≡ cond t u v
@@ -95,6 +98,14 @@ module _ (l : BinTable) (a : List ℕ) (choice : ℕ) (heap : Bool) (r : ℕ) wh
       go true h = entries-at (columnOf l c) a r c (fieldOf l a heap r c) k d h
       go false h = absurd (not-suc-le-zero h)
 
+  -- an entry of a column is one of its field's, so the column is chosen
+  pub size-chosen : (c k : ℕ) → k < size c → k < sizeOf (fieldOf l a heap r c)
+  size-chosen c k h = go (chosen choice c) h
+    where
+      go : (t : Bool) → k < cond t (sizeOf (fieldOf l a heap r c)) 0 → k < sizeOf (fieldOf l a heap r c)
+      go true h = h
+      go false h = absurd (not-suc-le-zero h)
+
   pub length-from : (c : ℕ) → c < l .tfields → length (from c) ≡ size c + length (from (suc c))
   length-from c h = rw (from-step c h, length-append, column-length)
 
@@ -121,3 +132,35 @@ module _ (rows : ℕ → List Entry) (n : ℕ) where
   pub next-skip : (r p : ℕ) → r < n → length (rows r) ≤ p → next rows n (n - r) r p ≡ next rows n (n - suc r) (suc r) 0
   unfolding next
   next-skip r p h q = let e : n - r ≡ suc (n - suc r) = omega arith in rw (e, le-ltb p (length (rows r)) q)
+
+  -- what the next entry is: the one at its place, which lies in a row of the table
+  abbrev pub IsNext : Next → Type 0
+  IsNext noEntry = Unit {0}
+  IsNext (entryAt r p e) = (e ≡ getD (rows r) p (E.OutsideHeap 0)) × ((p < length (rows r)) × (r < n))
+
+  next-from : (k r p : ℕ) → k ≤ n - r → IsNext (next rows n k r p)
+  unfolding next
+  next-from zero r p h = tt
+  next-from (suc k) r p h =
+      by-test IsNext (ltb p (length (rows r))) (λ e. (refl, (ltb-true p _ e, omega arith))) (λ e. next-from k (suc r) 0 (omega arith))
+
+  pub is-next : (r p : ℕ) → IsNext (next rows n (n - r) r p)
+  is-next r p = next-from (n - r) r p (omega arith)
+
+  -- ---- whether a place belongs, case by case
+
+  pub place-zero : (r p : ℕ) → r < n → p ≡ 0 → placeOk rows n r p ≡ true
+  unfolding placeOk
+  place-zero r p h e = rw (lt-ltb r n h, e)
+
+  pub place-inside : (r p : ℕ) → r < n → p ≢ 0 → placeOk rows n r p ≡ ltb p (length (rows r))
+  unfolding placeOk
+  place-inside r p h q = rw (lt-ltb r n h, ne-eqb p 0 q)
+
+  pub place-end : (r p : ℕ) → r ≡ n → placeOk rows n r p ≡ eqb p 0
+  unfolding placeOk
+  place-end r p e = rw (le-ltb r n (omega (arith, e)), eq-eqb r n e)
+
+  pub place-past : (r p : ℕ) → n ≤ r → r ≢ n → placeOk rows n r p ≡ false
+  unfolding placeOk
+  place-past r p h q = rw (le-ltb r n h, ne-eqb r n q)

@@ -6,3 +6,4 @@ pub mod Laws
 pub mod Inside
 pub mod Instance
 pub mod Kept
+pub mod Steps

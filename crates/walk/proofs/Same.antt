@@ -17,7 +17,7 @@ use Rattle.cell.specs.declared.Field.the-variants as F
 use Rattle.cell.specs.Item.{width}
 use Rattle.cell.proofs.Same.{item-same, field-same}
 use Rattle.walk.specs.Plain.{columnOf, fieldAt, fieldOf, chosen, cells, itemAt, entriesOf, columnEntries, columnsEntries, rowEntries}
-use Rattle.walk.specs.Agree.{Same, SameItems, Agree}
+use Rattle.walk.specs.Agree.{SameItems, Agree}
 
 -- two choices by one test are the same where their cases are
 same-test {ℓ} : {A : Type ℓ} (t : Bool) {x y u v : A} → (t ≡ true → x ≡ u) → (t ≡ false → y ≡ v) → cond t x y ≡ cond t u v

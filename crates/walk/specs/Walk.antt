@@ -97,6 +97,10 @@ abbrev pub entryOutcome : State → ℕ → ℕ → ℕ → Entry → Outcome
 entryOutcome s size r p (E.Cell c) = record { reply = gotCell c; list = []; state = pass (grown s readCell 1) size r p }
 entryOutcome s size r p (E.OutsideHeap k) = refusal s readCell 13 k
 
+-- a seek to the start of row r of n rows: at a 12 nothing moves
+abbrev pub seekOutcome : ℕ → State → ℕ → Outcome
+seekOutcome n s r = cond (ltb r n) (record { reply = sought; list = []; state = placed s r 0 }) (refusal s (seek r) 12 r)
+
 -- `rows r` is the plain list of row r, and n the number of rows
 module _ (rows : ℕ → List Entry) (n : ℕ) where
   -- a place belongs if its row is below n with 0 entries passed or fewer than that row has, or is n with 0
@@ -138,8 +142,7 @@ module _ (rows : ℕ → List Entry) (n : ℕ) where
   walkStep s readCell = cellOutcome s (nextEntry s)
   walkStep s (readRow list) =
       cond (ltb (s .row) n) (rowOutcome s list (rest s)) (record { reply = atEnd; list = list; state = s })
-  walkStep s (seek r) =
-      cond (ltb r n) (record { reply = sought; list = []; state = placed s r 0 }) (refusal s (seek r) 12 r)
+  walkStep s (seek r) = seekOutcome n s r
 
   -- the outcome of each step
   unfoldable pub walk : State → List Step → List Outcome

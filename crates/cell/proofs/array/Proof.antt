@@ -2,11 +2,11 @@
 -- Assumes nothing.
 use mathlib.Core.Path.{_≡_, _∙_, ap}
 use native.Mathlib.Omega.{arith}
+use borrow.Author.Needs.{needs}
 use Rattle.tform.specs.Width.{letterWidth}
 use Rattle.cell.specs.Item.{width}
 use Rattle.cell.proofs.Widths.{width-pos}
 use Rattle.cell.proofs.Arrays.{array-none, array-sound, array-outside, too-many, enough}
-use borrow.Author.Needs.{needs}
 use Rattle.cell.proofs.array.Statement.{statement}
 use Rattle.cell.proofs.array.Tie as tie
 

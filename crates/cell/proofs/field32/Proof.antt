@@ -1,12 +1,11 @@
 -- `field32` meets its contract: the heap on or off decides between the array and the descriptor.
 -- Assumes nothing.
-use mathlib.Core.Path.{_∙_, ap₂}
+use borrow.Author.Needs.{needs}
 use Rattle.cell.specs.Field.{array, field32}
 use Rattle.cell.specs.declared.Field.the-variants.{Descriptor}
 use Rattle.cell.specs.declared.DataValue.the-variants.{VariableLengthArray32}
 use Rattle.cell.proofs.Numbers.{word-here}
-use Rattle.cell.proofs.Values.{both}
-use borrow.Author.Needs.{needs}
+use Rattle.cell.proofs.Values.{both, made}
 use Rattle.cell.proofs.field32.Statement.{statement}
 use Rattle.cell.proofs.field32.Tie as tie
 
@@ -30,7 +29,7 @@ unfolding field32
 returns c =
     let a = c .before .before .before .before .before .args in
     rw (c .before .if1 .taken)
-    (c .array .ensures ∙ ap₂ (array (a .theap) (a .end) (a .ty)) (word-here _ _ 4 (c .before .before .before .u32-at .ensures)) (c .before .before .u32-at2 .ensures))
+    (made (array (a .theap) (a .end) (a .ty)) (c .array .ensures) (word-here _ _ 4 (c .before .before .before .u32-at .ensures)) (c .before .before .u32-at2 .ensures))
 
 returns-2 : tie.Need-returns-2
 unfolding field32

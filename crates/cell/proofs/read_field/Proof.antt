@@ -1,7 +1,7 @@
 -- `read_field` meets its contract: one case for each form.
 -- Assumes nothing.
-use Rattle.cell.specs.Field.{field}
 use borrow.Author.Needs.{needs}
+use Rattle.cell.specs.Field.{field}
 use Rattle.cell.proofs.read_field.Statement.{statement}
 use Rattle.cell.proofs.read_field.Tie as tie
 

@@ -5,12 +5,12 @@ use lib.Ieee.{binary32, binary64}
 use mir.Syntax.{w16, w32, w64}
 use mir.Val.{toZ}
 use mir.ValLaws.{toZ-ofZ}
+use borrow.Author.Needs.{needs}
 use Rattle.tform.specs.declared.VariableArrayTy.{VariableArrayTy}
 use Rattle.cell.specs.declared.DataValue.the-variants as D
 use Rattle.cell.specs.Item.{logical, item}
 use Rattle.cell.proofs.Numbers.{word-one, word-here}
 use Rattle.cell.proofs.Values.{one, two}
-use borrow.Author.Needs.{needs}
 use Rattle.cell.proofs.read_item.Statement.{statement}
 use Rattle.cell.proofs.read_item.Tie as tie
 

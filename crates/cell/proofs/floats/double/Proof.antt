@@ -1,8 +1,8 @@
 -- `double` meets its contract: a NaN for a pattern of a NaN, else the float of the bits.
 -- Assumes nothing.
 use lib.Ieee.{binary64}
-use Rattle.cell.proofs.Nan.{above, below}
 use borrow.Author.Needs.{needs}
+use Rattle.cell.proofs.Nan.{above, below}
 use Rattle.cell.proofs.floats.double.Statement.{statement}
 use Rattle.cell.proofs.floats.double.Tie as tie
 

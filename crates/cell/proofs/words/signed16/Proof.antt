@@ -1,8 +1,8 @@
 -- `signed16` meets its contract: the upper half by its distance from -1.
 -- Assumes nothing.
 use mir.Syntax.{w16}
-use Rattle.cell.proofs.Signed.{less-fits, less-is}
 use borrow.Author.Needs.{needs}
+use Rattle.cell.proofs.Signed.{less-fits, less-is}
 use Rattle.cell.proofs.words.signed16.Statement.{statement}
 use Rattle.cell.proofs.words.signed16.Tie as tie
 

@@ -1,8 +1,8 @@
 -- `signed32` meets its contract: the upper half by its distance from -1.
 -- Assumes nothing.
 use mir.Syntax.{w32}
-use Rattle.cell.proofs.Signed.{less-fits, less-is}
 use borrow.Author.Needs.{needs}
+use Rattle.cell.proofs.Signed.{less-fits, less-is}
 use Rattle.cell.proofs.words.signed32.Statement.{statement}
 use Rattle.cell.proofs.words.signed32.Tie as tie
 

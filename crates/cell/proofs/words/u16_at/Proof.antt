@@ -1,7 +1,7 @@
 -- `u16_at` meets its contract: two bytes, the higher first.
 -- Assumes nothing.
-use Rattle.cell.proofs.Numbers.{word-two}
 use borrow.Author.Needs.{needs}
+use Rattle.cell.proofs.Numbers.{word-two}
 use Rattle.cell.proofs.words.u16_at.Statement.{statement}
 use Rattle.cell.proofs.words.u16_at.Tie as tie
 

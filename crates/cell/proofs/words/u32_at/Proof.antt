@@ -1,7 +1,7 @@
 -- `u32_at` meets its contract: four bytes, the highest first.
 -- Assumes nothing.
-use Rattle.cell.proofs.Numbers.{word-four}
 use borrow.Author.Needs.{needs}
+use Rattle.cell.proofs.Numbers.{word-four}
 use Rattle.cell.proofs.words.u32_at.Statement.{statement}
 use Rattle.cell.proofs.words.u32_at.Tie as tie
 

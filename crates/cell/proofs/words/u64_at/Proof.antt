@@ -1,7 +1,7 @@
 -- `u64_at` meets its contract: two halves, the higher first.
 -- Assumes nothing.
-use Rattle.cell.proofs.Numbers.{word-eight}
 use borrow.Author.Needs.{needs}
+use Rattle.cell.proofs.Numbers.{word-eight}
 use Rattle.cell.proofs.words.u64_at.Statement.{statement}
 use Rattle.cell.proofs.words.u64_at.Tie as tie
 

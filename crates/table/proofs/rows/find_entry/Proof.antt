@@ -1,0 +1,76 @@
+-- `find_entry` meets its contract.
+-- Assumes nothing.
+use Prim.Native.Nat.{_-_}
+use mathlib.Core.Path.{_≡_, refl, _∙_}
+use native.Mathlib.Omega.{arith}
+use native.Mathlib.Numerals.{add-one}
+use Rattle.walk.proofs.Inside.{fits-limits}
+use Rattle.walk.proofs.Laws.{next-end, next-here, next-skip}
+use Rattle.walk.specs.Walk.{next}
+use Rattle.walk.specs.Plain.{rowEntries}
+use Rattle.table.proofs.rows.find_entry.Statement.{statement}
+use Rattle.table.proofs.rows.find_entry.Tie as tie
+
+abbrev Inv-loop : tie.InvT-loop
+Inv-loop layout area choice heap row passed r₀ p₀ r p = next (rowEntries layout area choice heap) (layout .naxis2) (layout .naxis2 - row) row passed ≡ next (rowEntries layout area choice heap) (layout .naxis2) (layout .naxis2 - r) r p
+
+abbrev μ-loop : tie.MeasureT-loop
+μ-loop layout area choice heap row passed r₀ p₀ r p = layout .naxis2 - r
+
+loop-holds : tie.Need-loop-holds Inv-loop μ-loop
+loop-holds c = refl
+
+row-size-requires : tie.Need-row-size-requires Inv-loop μ-loop
+row-size-requires c κs = (c .before .before .before .before .pre, c .if1 .taken)
+
+returns : tie.Need-returns Inv-loop μ-loop
+returns c =
+    let t = c .before .before .before .before in
+    let s = c .before .before .before .before .before .before in
+    rw (
+      t .loop .inv,
+      next-here (rowEntries (s .args .layout) (s .args .area .now) (s .args .choice) (s .args .heap)) (s .args .layout .naxis2) (t .loop .r)
+          (t .loop .p) (c .before .before .if1 .taken) (rw (c .before .row-size .ensures) at (c .if2 .taken)),
+      c .before .row-size .ensures,
+    )
+
+add-r : tie.Need-add-r Inv-loop μ-loop
+add-r c =
+    let s = c .before .before .before .before .before .before in
+    omega (arith, c .before .before .if1 .taken, fits-limits (s .args .layout) (s .args .area .now) (s .pre) .rows)
+
+loop-less : tie.Need-loop-less Inv-loop μ-loop
+loop-less c = omega (arith, c .before .before .if1 .taken)
+
+loop-again : tie.Need-loop-again Inv-loop μ-loop
+loop-again c =
+    let t = c .before .before .before .before in
+    let s = c .before .before .before .before .before .before in
+    t .loop .inv
+    ∙ rw (add-one (t .loop .r))
+    (next-skip (rowEntries (s .args .layout) (s .args .area .now) (s .args .choice) (s .args .heap)) (s .args .layout .naxis2) (t .loop .r)
+    (t .loop .p) (c .before .before .if1 .taken) (rw (c .before .row-size .ensures) at (c .if2 .left)))
+
+returns-2 : tie.Need-returns-2 Inv-loop μ-loop
+returns-2 c =
+    let t = c .before .before in
+    let s = c .before .before .before .before in
+    rw (
+      t .loop .inv,
+      next-end (rowEntries (s .args .layout) (s .args .area .now) (s .args .choice) (s .args .heap)) (s .args .layout .naxis2) (t .loop .r) (t .loop .p)
+          (c .if1 .left),
+    )
+
+pub find-entry-spec : {M : Type 1} → statement M
+find-entry-spec =
+    tie.close
+    (tie.spec
+    Inv-loop
+    μ-loop
+    loop-holds
+    row-size-requires
+    returns
+    add-r
+    loop-less
+    loop-again
+    returns-2)

@@ -1,0 +1,62 @@
+// Reading a table by a cursor: opening, cell reads and seeks. The cursor goes in by value and comes back beside the answer.
+mod belong;
+mod choice;
+mod rows;
+mod step;
+
+ghost use mathlib.Core.Path.{_≡_};
+ghost use mathlib.Core.List.{[]};
+ghost use Rattle.walk.specs.Walk.{readCell, seek};
+ghost use Rattle.walk.specs.Step.{allColumns, listed, openWith, openingOf, cursorStep, resultOf};
+use layout::BinTable;
+use layout::Refusal;
+use walk::Answer;
+use walk::Opened;
+use walk::Stepped;
+use walk::TableData;
+
+// A cursor on all columns, at the start of the table.
+pub fn open(layout: BinTable, area: &[u8], heap: bool) -> Opened
+    ensures { λ r. ⌜ openingOf r ≡ openWith layout (now (area .entry)) allColumns heap ⌝ }
+{
+    if belong::fits(layout, area) {
+        return choice::opened(choice::all_columns(layout.tfields), heap);
+    }
+    choice::refused(Refusal::Mismatch)
+}
+
+// A cursor on the columns that are listed by their indexes, at the start of the table.
+pub fn select_fields(layout: BinTable, area: &[u8], cols: &[usize], heap: bool) -> Opened
+    ensures { λ r. ⌜ openingOf r ≡ openWith layout (now (area .entry)) (listed (now (cols .entry))) heap ⌝ }
+{
+    if belong::fits(layout, area) {
+        return choice::opened(choice::listed_columns(layout.tfields, cols), heap);
+    }
+    choice::refused(Refusal::Mismatch)
+}
+
+// The next cell.
+pub fn next(layout: BinTable, area: &[u8], cursor: TableData) -> Stepped
+    ensures { λ r. ⌜ resultOf r [] ≡ cursorStep layout (now (area .entry)) cursor readCell ⌝ }
+{
+    if belong::belongs(layout, area, cursor) {
+        return step::read_cell(layout, area, cursor);
+    }
+    Stepped {
+        cursor,
+        answer: Answer::Refused(Refusal::Mismatch),
+    }
+}
+
+// To the start of a row.
+pub fn seek_to_row(layout: BinTable, area: &[u8], cursor: TableData, row: usize) -> Stepped
+    ensures { λ r. ⌜ resultOf r [] ≡ cursorStep layout (now (area .entry)) cursor (seek row) ⌝ }
+{
+    if belong::belongs(layout, area, cursor) {
+        return step::seek(layout.naxis2, cursor, row);
+    }
+    Stepped {
+        cursor,
+        answer: Answer::Refused(Refusal::Mismatch),
+    }
+}

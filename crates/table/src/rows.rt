@@ -1,0 +1,148 @@
+// The plain list of a row: how many entries it has, the entry at an index, and the next entry from a place on.
+ghost use mathlib.Core.Path.{_≡_};
+ghost use mathlib.Core.Bool.{true, cond};
+ghost use Prim.Native.Nat.{_-_, _<_};
+ghost use lib.ListN.{length, getD};
+ghost use Rattle.cell.specs.Field.{field, sizeOf, ItemsInside};
+ghost use Rattle.walk.specs.declared.Entry.the-variants.{OutsideHeap};
+ghost use Rattle.walk.specs.Plain.{entryIn, rowEntries};
+ghost use Rattle.walk.specs.Walk.{next};
+ghost use Rattle.walk.specs.Step.{fits};
+ghost use Rattle.table.specs.Spot.{spotOf};
+use super::choice;
+use cell::Cell;
+use cell::Field;
+use layout::BinTable;
+use layout::Column;
+use walk::Entry;
+
+// The next entry: its place and how many entries its row has.
+pub enum Spot {
+    At { row: u64, passed: u64, size: u64 },
+    Nothing,
+}
+
+// How many entries a field at a place has: none if its column is not chosen.
+fn column_size(
+    area: &[u8],
+    at: u64,
+    column: Column,
+    is_chosen: bool,
+    heap: bool,
+    theap: u64,
+    end: u64,
+) -> u64
+    ensures { λ r. ⌜ r ≡ cond «is_chosen» (sizeOf (field (now (area .entry)) at column heap theap end)) 0 ⌝ }
+{
+    if is_chosen {
+        let field = cell::read_field(area, at, column, heap, theap, end);
+        return cell::field_size(field);
+    }
+    0
+}
+
+// How many entries a row has.
+pub fn row_size(layout: BinTable, area: &[u8], choice: u64, heap: bool, row: u64) -> u64
+    requires { ⌜ (fits layout (now area) ≡ true) × (row < layout .naxis2) ⌝ }
+    ensures { λ r. ⌜ r ≡ length (rowEntries layout (now (area .entry)) choice heap row) ⌝ }
+{
+    let start = row * layout.naxis1;
+    let end = layout.naxis1 * layout.naxis2 + layout.pcount;
+    let mut total: u64 = 0;
+    let mut c: usize = 0;
+    while c < layout.tfields {
+        let column = layout.columns[c];
+        let is_chosen = choice::chosen(choice, c);
+        let size = column_size(
+            area,
+            start + column.start,
+            column,
+            is_chosen,
+            heap,
+            layout.theap,
+            end,
+        );
+        total += size;
+        c += 1;
+    }
+    total
+}
+
+// The entry at an index of a field.
+fn entry_in(area: &[u8], column: Column, row: u64, c: usize, field: Field, idx: u64) -> Entry
+    requires { ⌜ (idx < sizeOf field) × ItemsInside 17594333528063 field ⌝ }
+    ensures { λ r. ⌜ r ≡ entryIn column (now (area .entry)) row c field idx ⌝ }
+{
+    match field {
+        Field::Items { ty, at, n: _ } => {
+            let width = tform::item_width(tform::letter(ty)) as u64;
+            let value = cell::read_item(area, at + idx * width, ty, column);
+            Entry::Cell(Cell {
+                row,
+                column: c,
+                idx,
+                value,
+            })
+        }
+        Field::Descriptor(value) => Entry::Cell(Cell {
+            row,
+            column: c,
+            idx: 0,
+            value,
+        }),
+        Field::OutsideHeap => Entry::OutsideHeap { column: c },
+    }
+}
+
+// The entry at an index of a row.
+pub fn entry_at(layout: BinTable, area: &[u8], choice: u64, heap: bool, row: u64, k: u64) -> Entry
+    requires { ⌜ (fits layout (now area) ≡ true) × (row < layout .naxis2) × (k < length (rowEntries layout (now area) choice heap row)) ⌝ }
+    ensures { λ r. ⌜ r ≡ getD (rowEntries layout (now (area .entry)) choice heap row) k (OutsideHeap 0) ⌝ }
+{
+    let start = row * layout.naxis1;
+    let end = layout.naxis1 * layout.naxis2 + layout.pcount;
+    let mut left = k;
+    let mut c: usize = 0;
+    while c < layout.tfields {
+        let column = layout.columns[c];
+        let at = start + column.start;
+        let is_chosen = choice::chosen(choice, c);
+        let size = column_size(area, at, column, is_chosen, heap, layout.theap, end);
+        if left < size {
+            let field = cell::read_field(area, at, column, heap, layout.theap, end);
+            return entry_in(area, column, row, c, field, left);
+        }
+        left -= size;
+        c += 1;
+    }
+    Entry::OutsideHeap { column: 0 }
+}
+
+// The next entry from a place on, passing rows that have none left.
+pub fn find_entry(
+    layout: BinTable,
+    area: &[u8],
+    choice: u64,
+    heap: bool,
+    row: u64,
+    passed: u64,
+) -> Spot
+    requires { ⌜ fits layout (now area) ≡ true ⌝ }
+    ensures { λ r. ⌜ r ≡ spotOf (rowEntries layout (now (area .entry)) choice heap) (next (rowEntries layout (now (area .entry)) choice heap) (layout .naxis2) (layout .naxis2 - row) row passed) ⌝ }
+{
+    let mut r = row;
+    let mut p = passed;
+    while r < layout.naxis2 {
+        let size = row_size(layout, area, choice, heap, r);
+        if p < size {
+            return Spot::At {
+                row: r,
+                passed: p,
+                size,
+            };
+        }
+        p = 0;
+        r += 1;
+    }
+    Spot::Nothing
+}
