@@ -17,7 +17,7 @@ pub enum Logical {
     Odd(u8),
 }
 
-// The value of a cell. A float stands beside its stored bits: a NaN of the machine has no payload.
+// The value of a cell. A float stands beside its stored bits: there is one NaN, and only the bits keep a stored one's payload.
 pub enum DataValue {
     Logical(Logical),
     Bit(u8),

@@ -1,8 +1,8 @@
 -- The number and the place of a refusal decide its case, so that a contract that gives the outcome gives the answer.
 -- Assumes nothing.
+use Prim.Native.Nat.{ℕ, _-_}
 use mathlib.Core.Path.{_≡_, refl, sym, _∙_, ap}
 use mathlib.Core.List.{List, [], _∷_}
-use Prim.Native.Nat.{ℕ, _-_}
 use lib.ListN.{getD}
 use Rattle.header.specs.Checks.{Outcome, accepted, refused}
 use Rattle.layout.specs.declared.Refusal.{Refusal}
@@ -33,13 +33,14 @@ cause (R.NoSuchRow r) = refl
 cause (R.ArrayOutsideHeap c) = refl
 cause (R.ShortList n) = refl
 
-abbrev checkOf : Outcome → Check
+-- the check that an outcome is
+abbrev pub checkOf : Outcome → Check
 checkOf accepted = Passed
 checkOf (refused n p) = Refused (getD (causes p) (n - 1) R.BadLength)
 
-back : (c : Check) → checkOf (outcomeOf c) ≡ c
-back Passed = refl
-back (Refused r) = ap Refused (cause r)
+pub check-back : (c : Check) → checkOf (outcomeOf c) ≡ c
+check-back Passed = refl
+check-back (Refused r) = ap Refused (cause r)
 
 pub outcome-decides : (a b : Check) → outcomeOf a ≡ outcomeOf b → a ≡ b
-outcome-decides a b e = sym (back a) ∙ ap checkOf e ∙ back b
+outcome-decides a b e = sym (check-back a) ∙ ap checkOf e ∙ check-back b

@@ -25,6 +25,10 @@ pcountLimit = 2147483647
 abbrev pub tfieldsLimit : ℕ
 tfieldsLimit = 64
 
+-- so main size + PCOUNT is at most this
+abbrev pub dataLimit : ℕ
+dataLimit = naxis1Limit * naxis2Limit + pcountLimit
+
 -- what stands in the array of columns where there is none
 abbrev pub noColumn : Column
 noColumn = record { form = Items L; count = 0; start = 0; name = Missing }

@@ -1,1 +1,1 @@
-pub mod Spot
+pub mod NextPlace

@@ -15,7 +15,8 @@ use walk::Opened;
 use walk::Stepped;
 use walk::TableData;
 
-// A cursor on all columns, at the start of the table.
+// A cursor on all columns, at the start of the table. Refused with 10 if the layout and the area do not belong together, then with 11
+// if there is no column; beside a refusal stands the empty cursor.
 pub fn open(layout: BinTable, area: &[u8], heap: bool) -> Opened
     ensures { λ r. ⌜ openingOf r ≡ openWith layout (now (area .entry)) allColumns heap ⌝ }
 {
@@ -25,7 +26,8 @@ pub fn open(layout: BinTable, area: &[u8], heap: bool) -> Opened
     choice::refused(Refusal::Mismatch)
 }
 
-// A cursor on the columns that are listed by their indexes, at the start of the table.
+// A cursor on the columns that are listed by their indexes from 0. Unknown ones are dropped and a repeated one counts once; the order
+// is always that of the table. Refused as `open` is.
 pub fn select_fields(layout: BinTable, area: &[u8], cols: &[usize], heap: bool) -> Opened
     ensures { λ r. ⌜ openingOf r ≡ openWith layout (now (area .entry)) (listed (now (cols .entry))) heap ⌝ }
 {
@@ -35,7 +37,8 @@ pub fn select_fields(layout: BinTable, area: &[u8], cols: &[usize], heap: bool) 
     choice::refused(Refusal::Mismatch)
 }
 
-// The next cell.
+// The cell read: the next cell, the end, or refusal 13 at an array outside the heap. Refused with 10 first, if the cursor does not
+// belong to the layout and the area. A refusal returns the cursor that it got.
 pub fn next(layout: BinTable, area: &[u8], cursor: TableData) -> Stepped
     ensures { λ r. ⌜ resultOf r [] ≡ cursorStep layout (now (area .entry)) cursor readCell ⌝ }
 {
@@ -48,7 +51,7 @@ pub fn next(layout: BinTable, area: &[u8], cursor: TableData) -> Stepped
     }
 }
 
-// To the start of a row.
+// The seek: to the start of a row, or refusal 12 if there is no such row. Refused with 10 first, as `next` is.
 pub fn seek_to_row(layout: BinTable, area: &[u8], cursor: TableData, row: usize) -> Stepped
     ensures { λ r. ⌜ resultOf r [] ≡ cursorStep layout (now (area .entry)) cursor (seek row) ⌝ }
 {

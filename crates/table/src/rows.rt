@@ -3,12 +3,13 @@ ghost use mathlib.Core.Path.{_≡_};
 ghost use mathlib.Core.Bool.{true, cond};
 ghost use Prim.Native.Nat.{_-_, _<_};
 ghost use lib.ListN.{length, getD};
+ghost use Rattle.layout.specs.Layout.{dataLimit};
 ghost use Rattle.cell.specs.Field.{field, sizeOf, ItemsInside};
 ghost use Rattle.walk.specs.declared.Entry.the-variants.{OutsideHeap};
 ghost use Rattle.walk.specs.Plain.{entryIn, rowEntries};
 ghost use Rattle.walk.specs.Walk.{next};
 ghost use Rattle.walk.specs.Step.{fits};
-ghost use Rattle.table.specs.Spot.{spotOf};
+ghost use Rattle.table.specs.NextPlace.{nextPlace};
 use super::choice;
 use cell::Cell;
 use cell::Field;
@@ -16,8 +17,8 @@ use layout::BinTable;
 use layout::Column;
 use walk::Entry;
 
-// The next entry: its place and how many entries its row has.
-pub enum Spot {
+// The place of the next entry, and how many entries its row has.
+pub enum NextPlace {
     At { row: u64, passed: u64, size: u64 },
     Nothing,
 }
@@ -47,7 +48,8 @@ pub fn row_size(layout: BinTable, area: &[u8], choice: u64, heap: bool, row: u64
     ensures { λ r. ⌜ r ≡ length (rowEntries layout (now (area .entry)) choice heap row) ⌝ }
 {
     let start = row * layout.naxis1;
-    let end = layout.naxis1 * layout.naxis2 + layout.pcount;
+    let main = layout.naxis1 * layout.naxis2;
+    let end = main + layout.pcount;
     let mut total: u64 = 0;
     let mut c: usize = 0;
     while c < layout.tfields {
@@ -70,7 +72,7 @@ pub fn row_size(layout: BinTable, area: &[u8], choice: u64, heap: bool, row: u64
 
 // The entry at an index of a field.
 fn entry_in(area: &[u8], column: Column, row: u64, c: usize, field: Field, idx: u64) -> Entry
-    requires { ⌜ (idx < sizeOf field) × ItemsInside 17594333528063 field ⌝ }
+    requires { ⌜ (idx < sizeOf field) × ItemsInside dataLimit field ⌝ }
     ensures { λ r. ⌜ r ≡ entryIn column (now (area .entry)) row c field idx ⌝ }
 {
     match field {
@@ -100,7 +102,8 @@ pub fn entry_at(layout: BinTable, area: &[u8], choice: u64, heap: bool, row: u64
     ensures { λ r. ⌜ r ≡ getD (rowEntries layout (now (area .entry)) choice heap row) k (OutsideHeap 0) ⌝ }
 {
     let start = row * layout.naxis1;
-    let end = layout.naxis1 * layout.naxis2 + layout.pcount;
+    let main = layout.naxis1 * layout.naxis2;
+    let end = main + layout.pcount;
     let mut left = k;
     let mut c: usize = 0;
     while c < layout.tfields {
@@ -115,6 +118,7 @@ pub fn entry_at(layout: BinTable, area: &[u8], choice: u64, heap: bool, row: u64
         left -= size;
         c += 1;
     }
+    // Never reached: k is an index of the row.
     Entry::OutsideHeap { column: 0 }
 }
 
@@ -126,16 +130,16 @@ pub fn find_entry(
     heap: bool,
     row: u64,
     passed: u64,
-) -> Spot
+) -> NextPlace
     requires { ⌜ fits layout (now area) ≡ true ⌝ }
-    ensures { λ r. ⌜ r ≡ spotOf (rowEntries layout (now (area .entry)) choice heap) (next (rowEntries layout (now (area .entry)) choice heap) (layout .naxis2) (layout .naxis2 - row) row passed) ⌝ }
+    ensures { λ r. ⌜ r ≡ nextPlace (rowEntries layout (now (area .entry)) choice heap) (next (rowEntries layout (now (area .entry)) choice heap) (layout .naxis2) (layout .naxis2 - row) row passed) ⌝ }
 {
     let mut r = row;
     let mut p = passed;
     while r < layout.naxis2 {
         let size = row_size(layout, area, choice, heap, r);
         if p < size {
-            return Spot::At {
+            return NextPlace::At {
                 row: r,
                 passed: p,
                 size,
@@ -144,5 +148,5 @@ pub fn find_entry(
         p = 0;
         r += 1;
     }
-    Spot::Nothing
+    NextPlace::Nothing
 }

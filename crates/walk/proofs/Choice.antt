@@ -88,6 +88,22 @@ pub choice-some : (l : BinTable) (m : ℕ) → choiceOk l m ≡ true → (c : �
 unfolding choiceOk
 choice-some l m ok = some-chosen (l .tfields) m (ltb-true 0 m (both (ltb 0 m) (ltb m (2 ^ l .tfields)) ok .0)) (ltb-true m _ (both (ltb 0 m) (ltb m (2 ^ l .tfields)) ok .1))
 
+-- a choice that has a column is not 0
+pub chosen-some : (m c : ℕ) → chosen m c ≡ true → 0 < m
+unfolding chosen
+chosen-some zero c e = absurd (false≢true (sym (unchosen 0 c (pow-pos c)) ∙ e))
+chosen-some (suc m) c e = omega arith
+
+-- and one whose columns are all unwanted is
+pub choice-none : (l : BinTable) (sel : Selection) → ((c : ℕ) → c < l .tfields → wanted sel c ≡ false) → ltb 0 (choiceOf l sel) ≡ false
+choice-none l sel none =
+    either (ltb 0 (choiceOf l sel))
+    (λ t.
+    let q = some-chosen (l .tfields) (choiceOf l sel) (ltb-true 0 _ t) (choice-below sel 0 (l .tfields)) in
+    let h = both (ltb (q .0) (l .tfields)) (wanted sel (q .0)) (sym (chosen-of l sel (q .0)) ∙ q .1) in
+    absurd (false≢true (sym (none (q .0) (ltb-true (q .0) (l .tfields) (h .0))) ∙ h .1)))
+    (λ t. t)
+
 -- ---- for the code
 
 -- the choice of the columns from c on, and with the one before c

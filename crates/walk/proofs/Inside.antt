@@ -14,7 +14,7 @@ use Rattle.card.proofs.Cases.{by-test, both}
 use Rattle.tform.specs.Width.{countOk}
 use Rattle.layout.specs.declared.Column.{Column}
 use Rattle.layout.specs.declared.BinTable.{BinTable}
-use Rattle.layout.specs.Layout.{noColumn, columnBytes, columnsOf, mainSize, dataSize, columnsOk, layoutOk}
+use Rattle.layout.specs.Layout.{dataLimit, noColumn, columnBytes, columnsOf, mainSize, dataSize, columnsOk, layoutOk}
 use Rattle.cell.specs.Field.{ItemsInside}
 use Rattle.cell.proofs.Inside.{field-inside, inside-wider, size-bound}
 use Rattle.walk.specs.declared.Entry.{Entry}
@@ -102,15 +102,14 @@ module _ (l : BinTable) (ok : layoutOk l ≡ true) where
   items-in-data a heap r c hr hc =
       field-inside a (fieldAt l r c) (columnOf l c) heap (l .theap) (dataSize l) (omega (arith, field-in-main r c hr hc))
 
-  -- 17,594,333,528,063 is 1,048,576 * 16,777,216 + 2,147,483,647
-  pub data-bound : dataSize l ≤ 17594333528063
+  pub data-bound : dataSize l ≤ dataLimit
   data-bound =
       let lim = limits l ok in
       omega (arith, lim .heap-bytes, mul-le-mul-right (l .naxis2) (lim .row-bytes), mul-le-mul-left 1048576 (lim .rows))
 
   -- so no place of an item wraps
-  pub items-bound : (a : List ℕ) (heap : Bool) (r c : ℕ) → r < l .naxis2 → c < l .tfields → ItemsInside 17594333528063 (fieldOf l a heap r c)
-  items-bound a heap r c hr hc = inside-wider (dataSize l) 17594333528063 (fieldOf l a heap r c) data-bound (items-in-data a heap r c hr hc)
+  pub items-bound : (a : List ℕ) (heap : Bool) (r c : ℕ) → r < l .naxis2 → c < l .tfields → ItemsInside dataLimit (fieldOf l a heap r c)
+  items-bound a heap r c hr hc = inside-wider (dataSize l) dataLimit (fieldOf l a heap r c) data-bound (items-in-data a heap r c hr hc)
 
   -- ---- how many entries there are at most
 

@@ -4,7 +4,8 @@
 use Prim.Native.Nat.{ℕ, zero, suc, _+_, _<_}
 use mathlib.Core.Path.{_≡_, refl}
 use mathlib.Core.Bool.{Bool, true, _&&_, false≢true}
-use mathlib.Core.List.{List, [], _∷_}
+use mathlib.Core.Logic.{_≢_}
+use mathlib.Core.List.{List, [], _∷_, map}
 use native.Mathlib.Nat.{not-suc-le-zero, le-of-suc-le-suc}
 use native.Mathlib.Omega.{arith}
 use lib.Dec.{eqb}
@@ -20,10 +21,14 @@ use Rattle.layout.specs.declared.Name.the-variants.{Missing}
 use Rattle.layout.specs.declared.Column.{Column}
 use Rattle.layout.specs.declared.BinTable.{BinTable}
 use Rattle.layout.specs.Layout.{noColumn, columnBytes, columnsOk, layoutOk}
-use Rattle.cell.specs.Item.{word}
+use Rattle.cell.specs.declared.DataValue.the-variants.{UnsignedByte}
+use Rattle.cell.specs.declared.Cell.{Cell}
+use Rattle.cell.specs.Item.{word, item}
 use Rattle.cell.specs.Field.{array, field32, field}
-use Rattle.walk.specs.Plain.{columnOf, fieldAt, fieldOf, chosen}
-use Rattle.walk.specs.Step.{fits}
+use Rattle.walk.specs.Plain.{columnOf, fieldAt, fieldOf, cellOf, cells, entriesOf, chosen, columnEntries, columnsEntries, rowEntries}
+use Rattle.walk.specs.Walk.{Step, readCell, readRow, seek, Reply, gotCell, sought, refused, start, gather, next, placeOk, walkStep}
+use Rattle.walk.specs.Step as S
+use Rattle.walk.specs.Step.{fits, choiceOk, belongs, cursorAt, listed, choiceFrom, choiceOf, Result, cursorStep, run}
 use Rattle.walk.specs.Agree.{Same, SameItems, Agree}
 
 abbrev column : TFormType → ℕ → Column
@@ -85,7 +90,37 @@ arrays r (suc (suc c)) hr hc e = absurd (not-suc-le-zero (le-of-suc-le-suc (le-o
 pub areas-agree : Agree table area-a area-b 1 true
 areas-agree = record { fields = fields; arrays = arrays }
 
--- both fit the layout, and have different lengths
-pub areas-fit : (fits table area-a ≡ true) × ((fits table area-b ≡ true) × ((length area-a ≡ 30) × (length area-b ≡ 32)))
+-- they differ in length, in the column that is not chosen, in the gap before the heap, in heap bytes that no descriptor names (24 and 27), and in
+-- byte 28, where the array of row 1 would start
+pub areas-differ : (length area-a ≢ length area-b)
+    × ((getD area-a 8 0 ≢ getD area-b 8 0)
+    × ((getD area-a 20 0 ≢ getD area-b 20 0)
+    × ((getD area-a 24 0 ≢ getD area-b 24 0)
+    × ((getD area-a 27 0 ≢ getD area-b 27 0) × (getD area-a 28 0 ≢ getD area-b 28 0)))))
+areas-differ = (omega arith, (omega arith, (omega arith, (omega arith, (omega arith, omega arith)))))
+
+-- both fit the layout
+pub areas-fit : (fits table area-a ≡ true) × (fits table area-b ≡ true)
 unfolding fits layoutOk columnsOk letterWidth among bytes
-areas-fit = (refl, (refl, (refl, refl)))
+areas-fit = (refl, refl)
+
+-- the choice of column 0, of a column that is repeated, and of one that is unknown
+pub choice-one : choiceOf table (listed (0 ∷ 9 ∷ 0 ∷ [])) ≡ 1
+unfolding choiceFrom S.among
+choice-one = refl
+
+-- what both give: the two bytes that row 0 names, then refusal 13 of column 0, which stays; after a seek the first byte again
+abbrev steps : List Step
+steps = readCell ∷ readCell ∷ readCell ∷ readRow [] ∷ seek 0 ∷ readCell ∷ []
+
+abbrev cellAt : ℕ → ℕ → Cell
+cellAt i b = cellOf 0 0 i (UnsignedByte b)
+
+pub replies : List ℕ → List Reply
+unfolding run cursorStep belongs fits layoutOk columnsOk choiceOk placeOk walkStep next gather rowEntries columnsEntries columnEntries entriesOf cells chosen fieldOf field field32 array item word letterWidth among bytes
+replies a = map (λ (o : Result). o .reply) (run table a (cursorAt 1 true start) steps)
+
+pub both-reply : (replies area-a ≡ gotCell (cellAt 0 80) ∷ gotCell (cellAt 1 90) ∷ refused 13 0 ∷ refused 13 0 ∷ sought ∷ gotCell (cellAt 0 80) ∷ [])
+    × (replies area-a ≡ replies area-b)
+unfolding replies
+both-reply = (refl, refl)

@@ -16,10 +16,10 @@ use Rattle.walk.specs.declared.TableData.{TableData}
 use Rattle.walk.specs.declared.Entry.{Entry}
 use Rattle.walk.specs.Plain.{rowEntries}
 use Rattle.walk.specs.Walk.{Step, start, walk}
-use Rattle.walk.specs.Step.{fits, choiceOk, cursorAt, Selection, choiceOf, Opening, opened, notOpened, openWith, shown, run, plainWalk}
+use Rattle.walk.specs.Step.{fits, choiceOk, cursorAt, Selection, choiceOf, Opening, opened, notOpened, openWith, withCursor, run, plainWalk}
 use Rattle.walk.specs.Agree.{Agree, Counted, Demand3}
 use Rattle.walk.proofs.Same.{rows-same}
-use Rattle.walk.proofs.Follows.{fine-start, follows, walk-counts}
+use Rattle.walk.proofs.Follows.{start-ok, follows, walk-counts}
 
 -- an area that the entry accepts fits its layout
 pub entry-fits : (h a : List ℕ) (l : BinTable) → entry h a ≡ accepted l → fits l a ≡ true
@@ -39,16 +39,16 @@ by-choice false o c e = let q : H.refused 11 0 ≡ H.accepted = ap (λ (x : Open
 
 -- the steps from a newly opened cursor are what the plain walk gives
 walked : (l : BinTable) (a : List ℕ) (sel : Selection) (heap : Bool) (xs : List Step) → fits l a ≡ true → choiceOk l (choiceOf l sel) ≡ true
-    → run l a (cursorAt (choiceOf l sel) heap start) xs ≡ map (shown (choiceOf l sel) heap) (plainWalk l a (choiceOf l sel) heap xs)
+    → run l a (cursorAt (choiceOf l sel) heap start) xs ≡ map (withCursor (choiceOf l sel) heap) (plainWalk l a (choiceOf l sel) heap xs)
 walked l a sel heap xs ha hc =
-    follows l a (choiceOf l sel) heap ha hc start xs (fine-start (rowEntries l a (choiceOf l sel) heap) (l .naxis2))
+    follows l a (choiceOf l sel) heap ha hc start xs (start-ok (rowEntries l a (choiceOf l sel) heap) (l .naxis2))
 
 counted : (l : BinTable) (a : List ℕ) (sel : Selection) (heap : Bool) (xs : List Step) → fits l a ≡ true → choiceOk l (choiceOf l sel) ≡ true
     → Counted 0 xs (run l a (cursorAt (choiceOf l sel) heap start) xs)
 counted l a sel heap xs ha hc =
     let rows = rowEntries l a (choiceOf l sel) heap in
     subst (Counted 0 xs) (sym (walked l a sel heap xs ha hc))
-    (walk-counts rows (l .naxis2) (choiceOf l sel) heap 0 start xs (fine-start rows (l .naxis2)) refl)
+    (walk-counts rows (l .naxis2) (choiceOf l sel) heap 0 start xs (start-ok rows (l .naxis2)) refl)
 
 demand3 : (l : BinTable) (a b : List ℕ) (sel : Selection) (heap : Bool) (xs : List Step)
     → fits l a ≡ true → fits l b ≡ true → choiceOk l (choiceOf l sel) ≡ true → Agree l a b (choiceOf l sel) heap
@@ -61,7 +61,7 @@ demand3 l a b sel heap xs ha hb hc agree =
     record {
       walked-a = wa;
       walked-b = wb;
-      same = wa ∙ ap (map (shown choice heap)) one ∙ sym wb;
+      same = wa ∙ ap (map (withCursor choice heap)) one ∙ sym wb;
       counted-a = counted l a sel heap xs ha hc;
       counted-b = counted l b sel heap xs hb hc;
     }

@@ -7,3 +7,6 @@ pub mod Inside
 pub mod Instance
 pub mod Kept
 pub mod Steps
+pub mod Answers
+pub mod InOrder
+pub mod Examples

@@ -42,6 +42,16 @@ same-back a b (F.Items ty at n) h = λ i l u. sym (h i l u)
 same-back a b (F.Descriptor v) h = tt
 same-back a b F.OutsideHeap h = tt
 
+same-self : (a : List ℕ) (f : Field) → SameItems a a f
+same-self a (F.Items ty at n) = λ i u v. refl
+same-self a (F.Descriptor v) = tt
+same-self a F.OutsideHeap = tt
+
+-- an area agrees with itself
+pub agree-self : (l : BinTable) (a : List ℕ) (choice : ℕ) (heap : Bool) → Agree l a a choice heap
+agree-self l a choice heap =
+    record { fields = λ r c hr hc e i u v. refl; arrays = λ r c hr hc e. same-self a (fieldOf l a heap r c) }
+
 module _ (l : BinTable) (a b : List ℕ) (choice : ℕ) (heap : Bool) (agree : Agree l a b choice heap) where
   -- a chosen field stands for the same items
   fields-same : (r c : ℕ) → r < l .naxis2 → c < l .tfields → chosen choice c ≡ true → fieldOf l a heap r c ≡ fieldOf l b heap r c

@@ -13,7 +13,7 @@ use Rattle.cell.specs.Item.{width}
 use Rattle.walk.specs.declared.TableData.{TableData}
 use Rattle.walk.specs.Plain.{columnOf, fieldAt, fieldOf, chosen}
 use Rattle.walk.specs.Walk.{Step, stop, handed}
-use Rattle.walk.specs.Step.{Selection, choiceOf, Result, shown, run, plainWalk}
+use Rattle.walk.specs.Step.{Selection, choiceOf, Result, withCursor, run, plainWalk}
 
 -- the n bytes from place p on are the same in a and b
 abbrev pub Same : List ℕ → List ℕ → ℕ → ℕ → Type 0
@@ -33,15 +33,16 @@ pub record Agree (l : BinTable) (a b : List ℕ) (choice : ℕ) (heap : Bool) : 
 
 -- after each step the cursor's count is the number of cells that the steps so far handed out, up to the stop; k were handed out before
 abbrev pub Counted : ℕ → List Step → List Result → Type 0
-Counted k xs [] = Unit {0}
+Counted k [] [] = Unit {0}
 Counted k [] (o ∷ os) = ⊥
+Counted k (x ∷ xs) [] = ⊥
 Counted k (x ∷ xs) (o ∷ os) = (o .cursor .count ≡ min stop (k + handed x (o .reply))) × Counted (k + handed x (o .reply)) xs os
 
 -- the steps xs from the cursor c, opened with this selection and heap setting: on a and on b each is what the plain walk gives there, the two are the
 -- same, and the counts are right on both
 pub record Demand3 (l : BinTable) (a b : List ℕ) (sel : Selection) (heap : Bool) (c : TableData) (xs : List Step) : Type 0 where
-  pub walked-a : run l a c xs ≡ map (shown (choiceOf l sel) heap) (plainWalk l a (choiceOf l sel) heap xs)
-  pub walked-b : run l b c xs ≡ map (shown (choiceOf l sel) heap) (plainWalk l b (choiceOf l sel) heap xs)
+  pub walked-a : run l a c xs ≡ map (withCursor (choiceOf l sel) heap) (plainWalk l a (choiceOf l sel) heap xs)
+  pub walked-b : run l b c xs ≡ map (withCursor (choiceOf l sel) heap) (plainWalk l b (choiceOf l sel) heap xs)
   pub same : run l a c xs ≡ run l b c xs
   pub counted-a : Counted 0 xs (run l a c xs)
   pub counted-b : Counted 0 xs (run l b c xs)

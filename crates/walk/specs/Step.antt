@@ -97,13 +97,13 @@ pub record Result : Type 0 where
   pub list : List Cell
 
 -- an outcome of the walk, with the cursor that has this choice and heap setting
-abbrev pub shown : ℕ → Bool → Outcome → Result
-shown choice heap o = record { reply = o .reply; cursor = cursorAt choice heap (o .state); list = o .list }
+abbrev pub withCursor : ℕ → Bool → Outcome → Result
+withCursor choice heap o = record { reply = o .reply; cursor = cursorAt choice heap (o .state); list = o .list }
 
 unfoldable pub cursorStep : BinTable → List ℕ → TableData → Step → Result
 cursorStep l a c x =
     cond (belongs l a c)
-    (shown (c .choice) (c .heap) (walkStep (rowEntries l a (c .choice) (c .heap)) (l .naxis2) (stateOf c) x))
+    (withCursor (c .choice) (c .heap) (walkStep (rowEntries l a (c .choice) (c .heap)) (l .naxis2) (stateOf c) x))
     (record { reply = refused 10 0; cursor = c; list = lent x })
 
 -- a list of steps: each gets the cursor that the last one returned or left

@@ -4,6 +4,9 @@ use cell::Cell;
 use layout::Check;
 use layout::Refusal;
 
+// Where a cursor's count stops.
+pub const COUNT_STOP: u32 = 4294967295;
+
 // The cursor: column c is chosen if bit c of the choice, from the lowest, is set; whether the heap is followed;
 // the place, which is a row and the entries passed in it; and the count of the cells handed out.
 pub struct TableData {

@@ -18,10 +18,10 @@ use Rattle.table.proofs.rows.entry_at.Statement.{statement}
 use Rattle.table.proofs.rows.entry_at.Tie as tie
 
 abbrev Inv-loop : tie.InvT-loop
-Inv-loop area choice heap row k layout start end left₀ c₀ left c = (c ≤ layout .tfields) × ((left < length (from layout area choice heap row c)) × (getD (rowEntries layout area choice heap row) k (OutsideHeap 0) ≡ getD (from layout area choice heap row c) left (OutsideHeap 0)))
+Inv-loop area choice heap row k layout start main end left₀ c₀ left c = (c ≤ layout .tfields) × ((left < length (from layout area choice heap row c)) × (getD (rowEntries layout area choice heap row) k (OutsideHeap 0) ≡ getD (from layout area choice heap row c) left (OutsideHeap 0)))
 
 abbrev μ-loop : tie.MeasureT-loop
-μ-loop area choice heap row k layout start end left₀ c₀ left c = layout .tfields - c
+μ-loop area choice heap row k layout start main end left₀ c₀ left c = layout .tfields - c
 
 ok : (c : tie.Start Inv-loop μ-loop) → layoutOk (c .args .t1) ≡ true
 ok c = fits-layout (c .args .t1) (c .args .area .now) (c .pre .0)
@@ -55,8 +55,8 @@ later c = rw (sized (c .before)) at (c .if1 .left)
 mul-start : tie.Need-mul-start Inv-loop μ-loop
 mul-start c = omega (arith, row-in-main _ (ok (c .before)) (c .before .args .row) (c .before .pre .1), data-bound _ (ok (c .before)))
 
-mul-end : tie.Need-mul-end Inv-loop μ-loop
-mul-end c = omega (arith, data-bound _ (ok (c .before)))
+mul-main : tie.Need-mul-main Inv-loop μ-loop
+mul-main c = omega (arith, data-bound _ (ok (c .before)))
 
 add-end : tie.Need-add-end Inv-loop μ-loop
 add-end c = omega (arith, data-bound _ (ok (c .before)))
@@ -153,7 +153,7 @@ entry-at-spec =
     Inv-loop
     μ-loop
     mul-start
-    mul-end
+    mul-main
     add-end
     loop-holds
     mul-column

@@ -6,12 +6,13 @@ use native.Mathlib.Nat.{mul-le-mul-right}
 use native.Mathlib.Omega.{arith}
 use borrow.Author.Needs.{needs}
 use Rattle.tform.specs.Width.{letterWidth}
+use Rattle.layout.specs.Layout.{dataLimit}
 use Rattle.cell.specs.Item.{width}
 use Rattle.table.proofs.rows.entry_in.Statement.{statement}
 use Rattle.table.proofs.rows.entry_in.Tie as tie
 
 -- the item lies inside the data
-inside : (c : tie.After-item-width) → c .before .before .before .field .given .0 .1 .0 + c .before .before .before .before .before .before .args .idx * c .item-width .result ≤ 17594333528063
+inside : (c : tie.After-item-width) → c .before .before .before .field .given .0 .1 .0 + c .before .before .before .before .before .before .args .idx * c .item-width .result ≤ dataLimit
 inside c =
     let g = c .before .before .before .field .given in
     let p = c .before .before .before .before .before .before .pre in

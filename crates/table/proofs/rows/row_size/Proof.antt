@@ -17,10 +17,10 @@ use Rattle.table.proofs.rows.row_size.Statement.{statement}
 use Rattle.table.proofs.rows.row_size.Tie as tie
 
 abbrev Inv-loop : tie.InvT-loop
-Inv-loop area choice heap row layout start end total₀ c₀ total c = (c ≤ layout .tfields) × (total + length (from layout area choice heap row c) ≡ length (rowEntries layout area choice heap row))
+Inv-loop area choice heap row layout start main end total₀ c₀ total c = (c ≤ layout .tfields) × (total + length (from layout area choice heap row c) ≡ length (rowEntries layout area choice heap row))
 
 abbrev μ-loop : tie.MeasureT-loop
-μ-loop area choice heap row layout start end total₀ c₀ total c = layout .tfields - c
+μ-loop area choice heap row layout start main end total₀ c₀ total c = layout .tfields - c
 
 ok : (c : tie.Start Inv-loop μ-loop) → layoutOk (c .args .t1) ≡ true
 ok c = fits-layout (c .args .t1) (c .args .area .now) (c .pre .0)
@@ -56,8 +56,8 @@ grows c =
 mul-start : tie.Need-mul-start Inv-loop μ-loop
 mul-start c = omega (arith, row-in-main _ (ok (c .before)) (c .before .args .row) (c .before .pre .1), data-bound _ (ok (c .before)))
 
-mul-end : tie.Need-mul-end Inv-loop μ-loop
-mul-end c = omega (arith, data-bound _ (ok (c .before)))
+mul-main : tie.Need-mul-main Inv-loop μ-loop
+mul-main c = omega (arith, data-bound _ (ok (c .before)))
 
 add-end : tie.Need-add-end Inv-loop μ-loop
 add-end c = omega (arith, data-bound _ (ok (c .before)))
@@ -129,7 +129,7 @@ row-size-spec =
     Inv-loop
     μ-loop
     mul-start
-    mul-end
+    mul-main
     add-end
     loop-holds
     mul-column

@@ -13,7 +13,7 @@ use Rattle.walk.specs.declared.Entry.{Entry}
 use Rattle.walk.specs.Walk.{Next, entryAt, noEntry, next}
 use Rattle.walk.specs.Plain.{rowEntries}
 use Rattle.walk.specs.declared.Entry.the-variants.{OutsideHeap}
-use Rattle.table.proofs.Spots.{spot-at, spot-none}
+use Rattle.table.proofs.Places.{place-at, place-none}
 use Rattle.table.proofs.step.read_cell.Statement.{statement}
 use Rattle.table.proofs.step.read_cell.Tie as tie
 
@@ -26,23 +26,23 @@ nextOf s = next (rows s) (s .args .layout .naxis2) (s .args .layout .naxis2 - s 
 
 -- the next entry is the one that was found
 found : (c : tie.After-known-told)
-    → (nextOf (c .before .before .before .before .before) ≡ entryAt (c .before .spot .given .0 .0) (c .before .spot .given .0 .1 .0) (getD (rows (c .before .before .before .before .before) (c .before .spot .given .0 .0)) (c .before .spot .given .0 .1 .0) (OutsideHeap 0)))
-    × ((c .before .spot .given .0 .1 .1 .0 ≡ length (rows (c .before .before .before .before .before) (c .before .spot .given .0 .0)))
-    × ((c .before .spot .given .0 .1 .0 < c .before .spot .given .0 .1 .1 .0) × (c .before .spot .given .0 .0 < c .before .before .before .before .before .args .layout .naxis2)))
+    → (nextOf (c .before .before .before .before .before) ≡ entryAt (c .before .place .given .0 .0) (c .before .place .given .0 .1 .0) (getD (rows (c .before .before .before .before .before) (c .before .place .given .0 .0)) (c .before .place .given .0 .1 .0) (OutsideHeap 0)))
+    × ((c .before .place .given .0 .1 .1 .0 ≡ length (rows (c .before .before .before .before .before) (c .before .place .given .0 .0)))
+    × ((c .before .place .given .0 .1 .0 < c .before .place .given .0 .1 .1 .0) × (c .before .place .given .0 .0 < c .before .before .before .before .before .args .layout .naxis2)))
 found c =
     let s = c .before .before .before .before .before in
-    spot-at (rowEntries (s .args .layout) (s .args .area .now) (s .args .cursor .choice) (s .args .cursor .heap)) (s .args .layout .naxis2)
+    place-at (rowEntries (s .args .layout) (s .args .area .now) (s .args .cursor .choice) (s .args .cursor .heap)) (s .args .layout .naxis2)
     (next (rowEntries (s .args .layout) (s .args .area .now) (s .args .cursor .choice) (s .args .cursor .heap)) (s .args .layout .naxis2)
-    (s .args .layout .naxis2 - s .args .cursor .row) (s .args .cursor .row) (s .args .cursor .passed)) (c .before .spot .given .0 .0)
-    (c .before .spot .given .0 .1 .0) (c .before .spot .given .0 .1 .1 .0)
+    (s .args .layout .naxis2 - s .args .cursor .row) (s .args .cursor .row) (s .args .cursor .passed)) (c .before .place .given .0 .0)
+    (c .before .place .given .0 .1 .0) (c .before .place .given .0 .1 .1 .0)
     (is-next (rowEntries (s .args .layout) (s .args .area .now) (s .args .cursor .choice) (s .args .cursor .heap)) (s .args .layout .naxis2)
-    (s .args .cursor .row) (s .args .cursor .passed)) (sym (c .before .before .before .find-entry .ensures) ∙ c .before .spot .given .1)
+    (s .args .cursor .row) (s .args .cursor .passed)) (sym (c .before .before .before .find-entry .ensures) ∙ c .before .place .given .1)
 
 find-entry-requires : tie.Need-find-entry-requires
 find-entry-requires c κs = belongs-fits (c .before .args .layout) (c .before .args .area .now) (c .before .args .cursor) (c .before .pre)
 
-enum-known-spot : tie.Need-enum-known-spot
-enum-known-spot c = search needs
+enum-known-place : tie.Need-enum-known-place
+enum-known-place c = search needs
 
 entry-at-requires : tie.Need-entry-at-requires
 entry-at-requires c κs =
@@ -63,6 +63,9 @@ read-entry-requires c κs =
 enum-told : tie.Need-enum-told
 enum-told c = search needs
 
+placed-requires : tie.Need-placed-requires
+placed-requires c κs = search needs
+
 returns : tie.Need-returns
 returns c =
     let s = c .before .before .before .before .before .before .before in
@@ -72,22 +75,21 @@ returns c =
 
 returns-2 : tie.Need-returns-2
 returns-2 c =
-    let s = c .before .before .before .before in
-    sym
+    let s = c .before .before .before .before .before in
+    rw (c .placed .ensures)
+    (sym
     (cell-at (s .args .layout) (s .args .area .now) (s .args .cursor) (s .pre) noEntry
-    (spot-none (rowEntries (s .args .layout) (s .args .area .now) (s .args .cursor .choice) (s .args .cursor .heap)) (s .args .layout .naxis2)
-    (next (rowEntries (s .args .layout) (s .args .area .now) (s .args .cursor .choice) (s .args .cursor .heap)) (s .args .layout .naxis2)
-    (s .args .layout .naxis2 - s .args .cursor .row) (s .args .cursor .row) (s .args .cursor .passed))
-    (sym (c .before .before .find-entry .ensures) ∙ c .enum-told .given .1)))
+    (place-none (rows s) (s .args .layout .naxis2) (nextOf s) (sym (c .before .before .before .find-entry .ensures) ∙ c .before .enum-told .given .1))))
 
 pub read-cell-spec : {M : Type 1} → statement M
 read-cell-spec =
     tie.close
     (tie.spec
     find-entry-requires
-    enum-known-spot
+    enum-known-place
     entry-at-requires
     read-entry-requires
     enum-told
+    placed-requires
     returns
     returns-2)

@@ -8,24 +8,24 @@ use Rattle.walk.specs.declared.Entry.{Entry}
 use Rattle.walk.specs.declared.Entry.the-variants.{OutsideHeap}
 use Rattle.walk.specs.Walk.{Next, entryAt, noEntry}
 use Rattle.walk.proofs.Laws.{IsNext}
-use Rattle.table.specs.declared.rows.Spot.{Spot}
-use Rattle.table.specs.declared.rows.Spot.the-variants.{At, Nothing}
-use Rattle.table.specs.Spot.{spotOf}
+use Rattle.table.specs.declared.rows.NextPlace.{NextPlace}
+use Rattle.table.specs.declared.rows.NextPlace.the-variants.{At, Nothing}
+use Rattle.table.specs.NextPlace.{nextPlace}
 
-abbrev IsNothing : Spot → Type 0
+abbrev IsNothing : NextPlace → Type 0
 IsNothing (At r p size) = ⊥
 IsNothing Nothing = Unit {0}
 
 module _ (rows : ℕ → List Entry) (n : ℕ) where
-  pub spot-at : (x : Next) (r p size : ℕ) → IsNext rows n x → spotOf rows x ≡ At r p size
+  pub place-at : (x : Next) (r p size : ℕ) → IsNext rows n x → nextPlace rows x ≡ At r p size
       → (x ≡ entryAt r p (getD (rows r) p (OutsideHeap 0))) × ((size ≡ length (rows r)) × ((p < size) × (r < n)))
-  spot-at noEntry r p size h q = absurd (subst IsNothing q tt)
-  spot-at (entryAt r' p' e) r p size h q =
+  place-at noEntry r p size h q = absurd (subst IsNothing q tt)
+  place-at (entryAt r' p' e) r p size h q =
       let a : r' ≡ r = cc in
       let b : p' ≡ p = cc in
       let s : length (rows r') ≡ size = cc in
       rw (← s, ← a, ← b) (ap (entryAt r' p') (h .0), (refl, (h .1 .0, h .1 .1)))
 
-  pub spot-none : (x : Next) → spotOf rows x ≡ Nothing → x ≡ noEntry
-  spot-none noEntry q = refl
-  spot-none (entryAt r p e) q = cc
+  pub place-none : (x : Next) → nextPlace rows x ≡ Nothing → x ≡ noEntry
+  place-none noEntry q = refl
+  place-none (entryAt r p e) q = cc

@@ -5,10 +5,10 @@ use mathlib.Core.List.{List}
 use lib.ListN.{length}
 use Rattle.walk.specs.declared.Entry.{Entry}
 use Rattle.walk.specs.Walk.{Next, entryAt, noEntry}
-use Rattle.table.specs.declared.rows.Spot.{Spot}
-use Rattle.table.specs.declared.rows.Spot.the-variants.{At, Nothing}
+use Rattle.table.specs.declared.rows.NextPlace.{NextPlace}
+use Rattle.table.specs.declared.rows.NextPlace.the-variants.{At, Nothing}
 
 -- the place and the number of entries of its row
-abbrev pub spotOf : (ℕ → List Entry) → Next → Spot
-spotOf rows (entryAt r p e) = At r p (length (rows r))
-spotOf rows noEntry = Nothing
+abbrev pub nextPlace : (ℕ → List Entry) → Next → NextPlace
+nextPlace rows (entryAt r p e) = At r p (length (rows r))
+nextPlace rows noEntry = Nothing
