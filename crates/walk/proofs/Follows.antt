@@ -48,7 +48,7 @@ module _ (rows : ℕ → List Entry) (n : ℕ) where
   unfolding next
   next-inside zero r p h = tt
   next-inside (suc k) r p h =
-      by-test Inside (ltb p (length (rows r))) (λ e. omega arith) (λ e. next-inside k (suc r) 0 (omega arith))
+      by-test Inside (ltb p (length (rows r))) (λ e. omega arith) (λ e. next-inside k (suc r) _ (omega arith))
 
   -- ---- what the walk keeps is ok, and what a step from s comes to: what is kept stays ok, the count grows by the cells handed out, and
   -- there is no 10
