@@ -29,7 +29,7 @@ pub enum Refusal {
     AboveLimit { record: usize },
     BadForm { n: usize },
     RowSizeMismatch,
-    // The data area is too short; later also: the layout breaks a limit or sum, or the cursor is another table's.
+    // The data area is too short. In the calls that read cells also: the layout breaks a limit or sum, or the cursor does not belong to it.
     Mismatch,
     // Those of the calls after the layout.
     NoColumn,

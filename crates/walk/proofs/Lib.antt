@@ -5,7 +5,9 @@ pub mod Isolation
 pub mod Laws
 pub mod Inside
 pub mod Instance
+pub mod Handed
 pub mod Kept
+pub mod Own
 pub mod Steps
 pub mod Answers
 pub mod InOrder

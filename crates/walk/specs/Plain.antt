@@ -1,4 +1,4 @@
--- The plain list of a row: its chosen fields ascending, each field's items by index (FORMAT.md, section 12).
+-- The plain list of a row and its entries: the chosen fields ascending, each field's items by index (FORMAT.md, section 12).
 -- Assumes nothing.
 use Prim.Native.Nat.{ℕ, zero, suc, _+_, _*_, _/_, _%_, _^_}
 use mathlib.Core.Bool.{Bool, cond}
@@ -68,11 +68,11 @@ module _ (l : BinTable) (a : List ℕ) (choice : ℕ) (heap : Bool) (r : ℕ) wh
   unfoldable pub rowEntries : List Entry
   rowEntries = cond (ltb r (l .naxis2)) (columnsEntries 0 (l .tfields)) []
 
-  -- how many entries column c has in row r
+  -- how many entries column c has in row r: not a part of the plain list, but what the search for an entry works out
   abbrev pub columnSize : ℕ → ℕ
   columnSize c = cond (chosen choice c) (sizeOf (fieldOf l a heap r c)) 0
 
--- the entry at index i of a field of row r and column c
+-- the entry at index i of a field of row r and column c, which that search hands out
 abbrev pub entryIn : Column → List ℕ → ℕ → ℕ → Field → ℕ → Entry
 entryIn column a r c (F.Items ty at n) i = E.Cell (cellOf r c i (itemAt column a ty at i))
 entryIn column a r c (F.Descriptor v) i = E.Cell (cellOf r c 0 v)

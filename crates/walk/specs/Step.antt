@@ -90,13 +90,13 @@ openingOf o = record { outcome = outcomeOf (o .check); cursor = o .cursor }
 
 -- ---- a step
 
--- a step's answer, the cursor after it, and what the list lent holds afterwards
+-- the result of a cursor's step: its answer, the cursor after it, and what the list lent holds afterwards
 pub record Result : Type 0 where
   pub reply : Reply
   pub cursor : TableData
   pub list : List Cell
 
--- an outcome of the walk, with the cursor that has this choice and heap setting
+-- an outcome of the walk as the result of a cursor with this choice and heap setting
 abbrev pub withCursor : ℕ → Bool → Outcome → Result
 withCursor choice heap o = record { reply = o .reply; cursor = cursorAt choice heap (o .state); list = o .list }
 
@@ -111,7 +111,7 @@ unfoldable pub run : BinTable → List ℕ → TableData → List Step → List 
 run l a c [] = []
 run l a c (x ∷ xs) = let o = cursorStep l a c x in o ∷ run l a (o .cursor) xs
 
--- the plain walk: it is fed the layout, data area, choice and heap setting, and each step's arguments
+-- the plain walk from the start: it is fed the layout, data area, choice and heap setting, and each step's arguments, and nothing from a cursor
 abbrev pub plainWalk : BinTable → List ℕ → ℕ → Bool → List Step → List Outcome
 plainWalk l a choice heap xs = walk (rowEntries l a choice heap) (l .naxis2) start xs
 

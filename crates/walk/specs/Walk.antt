@@ -1,4 +1,5 @@
--- The plain walk, over the plain lists of a table's rows and the number of its rows (FORMAT.md, section 13).
+-- The plain walk, over the plain lists of a table's rows and the number of its rows (FORMAT.md, section 13). `Reply`, `State` and `Outcome` are
+-- the walk's; a cursor's `Result` is in Step, and what the code returns is an `Answer` in a `Stepped`.
 -- Assumes nothing.
 use Prim.Native.Nat.{ℕ, zero, suc, _+_, _-_, min}
 use mathlib.Core.Bool.{Bool, cond, _&&_, _||_}
@@ -49,7 +50,7 @@ lent (seek r) = []
 abbrev pub stop : ℕ
 stop = 4294967295
 
--- the cells that a step hands out with an answer
+-- the cells that a step hands out with an answer. The step does not matter while there is one count for all
 abbrev pub handed : Step → Reply → ℕ
 handed x (gotCell c) = 1
 handed x (gotRow k) = k
@@ -61,7 +62,7 @@ handed x (refused n p) = 0
 abbrev pub placed : State → ℕ → ℕ → State
 placed s r p = record { row = r; passed = p; count = s .count }
 
--- what is kept, with k more cells of step x counted: a count that would pass the stop is the stop
+-- what is kept, with k more cells of step x counted: a count that would pass the stop is the stop. The step does not matter here either
 abbrev pub grown : State → Step → ℕ → State
 grown s x k = record { row = s .row; passed = s .passed; count = min stop (s .count + k) }
 
@@ -107,7 +108,8 @@ module _ (rows : ℕ → List Entry) (n : ℕ) where
   unfoldable pub placeOk : ℕ → ℕ → Bool
   placeOk r p = cond (ltb r n) (eqb p 0 || ltb p (length (rows r))) (eqb r n && eqb p 0)
 
-  -- the next entry from the place r, p on, passing rows that have none left; k is the number of rows from r on
+  -- the next entry from the place r, p on, passing rows that have none left; k is the number of rows from r on. The default of the
+  -- lookup is never taken, since p is an index of the row
   unfoldable pub next : ℕ → ℕ → ℕ → Next
   next zero r p = noEntry
   next (suc k) r p =
