@@ -14,9 +14,12 @@ use Rattle.keyword.specs.declared.Found.the-variants.{At, Nothing}
 use Rattle.header.specs.Checks.{Outcome, before, checked}
 use Rattle.layout.specs.declared.Column.{Column}
 use Rattle.layout.specs.declared.BinTable.{BinTable}
+use Rattle.layout.specs.declared.Check.{Check}
+use Rattle.layout.specs.declared.Check.the-variants.{Passed}
+use Rattle.layout.specs.Refusal.{outcomeOf}
 use Rattle.layout.specs.Layout.{columnBytes, rowBytes, columnsOf, mainSize, dataSize, columnsOk, layoutOk}
 use Rattle.bintable.specs.Checks.{notNegative, sizeIn, within, textIn, valueAt, recordFor, sizeFor, tformOf}
-use Rattle.bintable.specs.Entry.{mainOf, theapCheck, theapIn, nine, nineChecks, columnChecks, columnsFrom, layoutOf, check9, check10, allChecks, accepted, entryBy, entry}
+use Rattle.bintable.specs.Entry.{mainOf, theapCheck, theapIn, nine, nineChecks, columnChecks, columnsFrom, layoutOf, check9, check10, allChecks, accepted, entryBy, entry, layoutIn}
 use Rattle.bintable.proofs.Bounds.{refused-not, both-accepted, first-accepted, unless-holds, size-limits}
 use Rattle.bintable.proofs.Filled.{form-count, columnOf}
 use Rattle.bintable.proofs.Entered.{nine-sizes, nine-rest, nine-tfields, columns-of, entry-parts}
@@ -97,3 +100,11 @@ module _ (h : List ℕ) where
     pub entry-long : entry h a ≡ accepted l → dataSize l ≤ length a
     unfolding check10
     entry-long e = let p = parts e in rw (p .1 .1) (leb-true (dataSize (layoutOf h)) (length a) (passes (leb (dataSize (layoutOf h)) (length a)) 10 0 (p .1 .0)))
+
+-- where the code's entry passed, the entry accepts the layout that it returned: from the two clauses of its contract
+pub parsed-entry : (h a : List ℕ) (check : Check) (l : BinTable) → outcomeOf check ≡ allChecks h a → l ≡ layoutIn (entry h a) → check ≡ Passed
+    → entry h a ≡ accepted l
+parsed-entry h a check l e q p =
+    let o : allChecks h a ≡ O.accepted = sym e ∙ ap outcomeOf p in
+    let n : entry h a ≡ accepted (layoutOf h) = ap (λ (x : Outcome). entryBy x (layoutOf h)) o in
+    n ∙ ap accepted (sym (q ∙ ap layoutIn n))

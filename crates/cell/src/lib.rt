@@ -87,7 +87,8 @@ fn read_logical(byte: u8) -> Logical
     }
 }
 
-// The value of the item at a place. A byte past the area counts as 0.
+// The value of the item at a place. A byte past the area counts as 0. The column does not matter yet: scaling and missing values will
+// look at it.
 pub fn read_item(area: &[u8], at: u64, ty: VariableArrayTy, column: Column) -> DataValue
     ensures { λ r. ⌜ r ≡ item column ty (now (area .entry)) at ⌝ }
 {
@@ -139,7 +140,7 @@ pub fn read_item(area: &[u8], at: u64, ty: VariableArrayTy, column: Column) -> D
     }
 }
 
-// The array that a descriptor names, in a heap from byte theap to byte `end` of the data area.
+// The array that a descriptor names, in a heap from byte theap up to, and without, byte `end` of the data area.
 pub fn array(theap: u64, end: u64, ty: VariableArrayTy, num_elems: u64, offset_byte: u64) -> Field
     ensures { λ r. ⌜ r ≡ array theap end ty «num_elems» «offset_byte» ⌝ }
 {
@@ -193,7 +194,7 @@ fn field64(area: &[u8], at: u64, ty: VariableArrayTy, heap: bool, theap: u64, en
     })
 }
 
-// What the field of a column at a place stands for, with the heap on or off.
+// What the field of a column at a place stands for, with the heap, from byte theap up to byte `end`, on or off.
 pub fn read_field(area: &[u8], at: u64, column: Column, heap: bool, theap: u64, end: u64) -> Field
     ensures { λ r. ⌜ r ≡ field (now (area .entry)) at column heap theap end ⌝ }
 {
