@@ -1,7 +1,7 @@
 -- `find_entry` meets its contract.
 -- Assumes nothing.
-use Prim.Native.Nat.{_-_}
-use mathlib.Core.Path.{_≡_, refl, _∙_}
+use Prim.Native.Nat.{ℕ, _-_}
+use mathlib.Core.Path.{_≡_, refl, _∙_, ap, sym}
 use native.Mathlib.Omega.{arith}
 use native.Mathlib.Numerals.{add-one}
 use Rattle.walk.proofs.Inside.{fits-limits}
@@ -46,10 +46,11 @@ loop-again : tie.Need-loop-again Inv-loop μ-loop
 loop-again c =
     let t = c .before .before .before .before in
     let s = c .before .before .before .before .before .before in
+    let rows = rowEntries (s .args .layout) (s .args .area .now) (s .args .choice) (s .args .heap) in
+    let n = s .args .layout .naxis2 in
     t .loop .inv
-    ∙ rw (add-one (t .loop .r))
-    (next-skip (rowEntries (s .args .layout) (s .args .area .now) (s .args .choice) (s .args .heap)) (s .args .layout .naxis2) (t .loop .r)
-    (t .loop .p) (c .before .before .if1 .taken) (rw (c .before .row-size .ensures) at (c .if2 .left)))
+    ∙ next-skip rows n (t .loop .r) (t .loop .p) (c .before .before .if1 .taken) (rw (c .before .row-size .ensures) at (c .if2 .left))
+    ∙ ap (λ (r : ℕ). next rows n (n - r) r 0) (sym (add-one (t .loop .r)))
 
 returns-2 : tie.Need-returns-2 Inv-loop μ-loop
 returns-2 c =
