@@ -10,7 +10,7 @@ use Rattle.tform.specs.declared.VariableArrayTy.the-variants.{L, X, B, I
 use Rattle.tform.specs.declared.TFormType.{TFormType}
 use Rattle.tform.specs.declared.TFormType.the-variants.{Items, P, Q}
 
--- whether a byte is one of some letters
+-- whether a number is one of some: a byte of some letters, an index of a list
 unfoldable pub among : ℕ → List ℕ → Bool
 among b [] = false
 among b (c ∷ cs) = eqb b c || among b cs

@@ -12,6 +12,7 @@ use lib.Seq.{drop-append-seam}
 use borrow.Author.Tests.{leb-true}
 use Rattle.card.proofs.Cases.{by-test}
 use Rattle.header.specs.Checks as H
+use Rattle.tform.specs.Width.{among}
 use Rattle.layout.specs.declared.BinTable.{BinTable}
 use Rattle.layout.specs.declared.Check.{Check}
 use Rattle.layout.specs.declared.Check.the-variants as C
@@ -25,7 +26,7 @@ use Rattle.walk.specs.declared.Answer.the-variants as A
 use Rattle.walk.specs.declared.Opened.{Opened}
 use Rattle.walk.specs.Plain.{rowEntries}
 use Rattle.walk.specs.Walk.{Step, readCell, readRow, seek, lent, Outcome, Reply, gotCell, gotRow, sought, atEnd, refused, Next, entryAt, noEntry, Gathered, allCells, outside, nextEntry, rest, cellOutcome, rowOutcome, walkStep}
-use Rattle.walk.specs.Step.{among, fits, choiceOk, belongs, withCursor, stateOf, noCursor, Opening, openingOf, replyOf, Result, cursorStep, run}
+use Rattle.walk.specs.Step.{fits, choiceOk, belongs, withCursor, stateOf, noCursor, Opening, openingOf, replyOf, Result, cursorStep, run}
 
 -- the refusals of a step
 abbrev pub refusalsOf : Step → List ℕ

@@ -14,9 +14,10 @@ use lib.Seq.{drop-cons}
 use lib.Pow.{pow-pos, pow-mono}
 use borrow.Author.Tests.{ltb-true, lt-ltb, ltb-false, le-ltb, eqb-false, eq-eqb, ne-eqb}
 use Rattle.card.proofs.Cases.{by-test, both, either}
+use Rattle.tform.specs.Width.{among}
 use Rattle.layout.specs.declared.BinTable.{BinTable}
 use Rattle.walk.specs.Plain.{chosen}
-use Rattle.walk.specs.Step.{Selection, among, wanted, choiceOk, choiceFrom, choiceOf}
+use Rattle.walk.specs.Step.{Selection, wanted, choiceOk, choiceFrom, choiceOf}
 
 -- bit 0, and the bits above it
 chosen-zero : (m : ℕ) → chosen m 0 ≡ eqb (m % 2) 1

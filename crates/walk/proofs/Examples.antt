@@ -10,7 +10,7 @@ use Rattle.card.specs.Text.{bytes}
 use Rattle.tform.specs.declared.VariableArrayTy.the-variants as T
 use Rattle.tform.specs.declared.TFormType.{TFormType}
 use Rattle.tform.specs.declared.TFormType.the-variants as F
-use Rattle.tform.specs.Width as W
+use Rattle.tform.specs.Width.{among, letterWidth}
 use Rattle.layout.specs.declared.Name.the-variants.{Missing}
 use Rattle.layout.specs.declared.Column.{Column}
 use Rattle.layout.specs.declared.BinTable.{BinTable}
@@ -22,7 +22,6 @@ use Rattle.cell.specs.Item.{word, logical, item}
 use Rattle.cell.specs.Field.{array, field32, field64, field}
 use Rattle.walk.specs.Plain.{fieldOf, cellOf, cells, entriesOf, chosen, columnEntries, columnsEntries, rowEntries}
 use Rattle.walk.specs.Walk.{Step, readCell, readRow, seek, Reply, gotCell, gotRow, sought, atEnd, refused, start, gather, next, placeOk, walkStep}
-use Rattle.walk.specs.Step as S
 use Rattle.walk.specs.Step.{Selection, allColumns, listed, fits, choiceOk, belongs, cursorAt, choiceFrom, choiceOf, opened, notOpened, openWith, Result, cursorStep, run}
 
 abbrev column : TFormType → ℕ → ℕ → Column
@@ -30,7 +29,7 @@ column f n at = record { form = f; count = n; start = at; name = Missing }
 
 -- the answers of some steps from an opened cursor
 pub answers : BinTable → List ℕ → Selection → Bool → List Step → List Reply
-unfolding run cursorStep belongs fits layoutOk columnsOk choiceOk choiceFrom S.among placeOk walkStep next gather rowEntries columnsEntries columnEntries entriesOf cells chosen fieldOf field field32 field64 array item logical word W.letterWidth W.among bytes
+unfolding run cursorStep belongs fits layoutOk columnsOk choiceOk choiceFrom placeOk walkStep next gather rowEntries columnsEntries columnEntries entriesOf cells chosen fieldOf field field32 field64 array item logical word letterWidth among bytes
 answers l a sel heap xs = map (λ (o : Result). o .reply) (run l a (cursorAt (choiceOf l sel) heap start) xs)
 
 -- ---- `1I`, `1J`, two rows
@@ -50,17 +49,17 @@ abbrev pub area : List ℕ
 area = 0x00 ∷ 0x01 ∷ 0x00 ∷ 0x00 ∷ 0x1F ∷ 0x40 ∷ 0xFF ∷ 0xFF ∷ 0x00 ∷ 0x00 ∷ 0x00 ∷ 0x2A ∷ []
 
 opens : openWith table area allColumns true ≡ opened (cursorAt 3 true start)
-unfolding openWith fits layoutOk columnsOk choiceOk choiceFrom W.letterWidth W.among bytes
+unfolding openWith fits layoutOk columnsOk choiceOk choiceFrom letterWidth among bytes
 opens = refl
 
 -- column 9 of 2
 no-column : openWith table area (listed (9 ∷ [])) true ≡ notOpened 11
-unfolding openWith fits layoutOk columnsOk choiceOk choiceFrom S.among W.letterWidth W.among bytes
+unfolding openWith fits layoutOk columnsOk choiceOk choiceFrom letterWidth among bytes
 no-column = refl
 
 -- 11 bytes for 12
 too-short : openWith table (0 ∷ 0 ∷ 0 ∷ 0 ∷ 0 ∷ 0 ∷ 0 ∷ 0 ∷ 0 ∷ 0 ∷ 0 ∷ []) allColumns true ≡ notOpened 10
-unfolding openWith fits layoutOk columnsOk W.letterWidth W.among bytes
+unfolding openWith fits layoutOk columnsOk letterWidth among bytes
 too-short = refl
 
 pub four-cells : answers table area allColumns true (replicate 6 readCell)

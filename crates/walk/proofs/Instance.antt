@@ -27,7 +27,6 @@ use Rattle.cell.specs.Item.{word, item}
 use Rattle.cell.specs.Field.{array, field32, field}
 use Rattle.walk.specs.Plain.{columnOf, fieldAt, fieldOf, cellOf, cells, entriesOf, chosen, columnEntries, columnsEntries, rowEntries}
 use Rattle.walk.specs.Walk.{Step, readCell, readRow, seek, Reply, gotCell, sought, refused, start, gather, next, placeOk, walkStep}
-use Rattle.walk.specs.Step as S
 use Rattle.walk.specs.Step.{fits, choiceOk, belongs, cursorAt, listed, choiceFrom, choiceOf, Result, cursorStep, run}
 use Rattle.walk.specs.Agree.{Same, SameItems, Agree}
 
@@ -106,7 +105,7 @@ areas-fit = (refl, refl)
 
 -- the choice of column 0, of a column that is repeated, and of one that is unknown
 pub choice-one : choiceOf table (listed (0 ∷ 9 ∷ 0 ∷ [])) ≡ 1
-unfolding choiceFrom S.among
+unfolding choiceFrom among
 choice-one = refl
 
 -- what both give: the two bytes that row 0 names, then refusal 13 of column 0, which stays; after a seek the first byte again

@@ -7,6 +7,7 @@ use mathlib.Core.List.{List, [], _∷_}
 use lib.ListN.{length}
 use lib.Dec.{eqb, leb, ltb}
 use Rattle.header.specs.Checks as H
+use Rattle.tform.specs.Width.{among}
 use Rattle.layout.specs.declared.BinTable.{BinTable}
 use Rattle.layout.specs.Layout.{dataSize, layoutOk}
 use Rattle.layout.specs.Refusal.{numberOf, placeOf, outcomeOf}
@@ -51,10 +52,6 @@ noCursor = cursorAt 0 false start
 pub data Selection : Type 0 where
   allColumns : Selection
   listed : List ℕ → Selection
-
-unfoldable pub among : ℕ → List ℕ → Bool
-among c [] = false
-among c (i ∷ is) = eqb c i || among c is
 
 abbrev pub wanted : Selection → ℕ → Bool
 wanted allColumns c = true

@@ -1,13 +1,11 @@
--- `is_listed` meets its contract.
--- Assumes nothing.
-use borrow.Author.Needs.{needs}
 -- `is_listed` meets its contract. The loop's invariant: c is listed just where it is among the indexes that are left.
 -- Assumes nothing.
-use mathlib.Core.Path.{_≡_, refl, sym, _∙_}
 use Prim.Native.Nat.{_-_, _≤_}
+use mathlib.Core.Path.{_≡_, refl, sym, _∙_}
 use native.Mathlib.Omega.{arith}
 use lib.ListN.{length, drop}
-use Rattle.walk.specs.Step.{among}
+use borrow.Author.Needs.{needs}
+use Rattle.tform.specs.Width.{among}
 use Rattle.walk.proofs.Choice.{among-here, among-next, among-end}
 use Rattle.table.proofs.choice.is_listed.Statement.{statement}
 use Rattle.table.proofs.choice.is_listed.Tie as tie

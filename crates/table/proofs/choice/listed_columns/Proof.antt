@@ -1,4 +1,4 @@
--- `listed_columns` meets its contract.
+-- `listed_columns` meets its contract. The loop's invariant: the choice of the listed columns from c on.
 -- Assumes nothing.
 use Prim.Native.Nat.{_-_, _≤_}
 use mathlib.Core.Path.{_≡_, sym, _∙_}

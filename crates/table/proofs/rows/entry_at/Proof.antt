@@ -1,4 +1,4 @@
--- `entry_at` meets its contract.
+-- `entry_at` meets its contract. The loop's invariant: the entry stands among those of the columns that are left, at what is left of the index.
 -- Assumes nothing.
 use Prim.Native.Nat.{ℕ, _-_, _≤_, _<_}
 use mathlib.Core.Bool.{true}

@@ -1,4 +1,4 @@
--- `find_entry` meets its contract.
+-- `find_entry` meets its contract. The loop's invariant: the next entry from the place so far is that from the first place.
 -- Assumes nothing.
 use Prim.Native.Nat.{ℕ, _-_}
 use mathlib.Core.Path.{_≡_, refl, _∙_, ap, sym}

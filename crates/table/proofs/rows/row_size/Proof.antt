@@ -1,4 +1,4 @@
--- `row_size` meets its contract.
+-- `row_size` meets its contract. The loop's invariant: the entries counted so far and those of the columns that are left are the row's.
 -- Assumes nothing.
 use Prim.Native.Nat.{ℕ, suc, _+_, _-_, _≤_}
 use mathlib.Core.Bool.{true}
