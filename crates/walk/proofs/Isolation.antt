@@ -1,4 +1,4 @@
--- Demand 3 over the definitions: for every list of steps from a newly opened cursor, two data areas that agree in the chosen fields and in
+-- Isolation (FORMAT.md, section 15) over the definitions: for every list of steps from a newly opened cursor, two data areas that agree in the chosen fields and in
 -- the arrays of their sound descriptors give the same answers, each what the plain walk gives, with right counts.
 -- Assumes nothing.
 use Prim.Native.Nat.{ℕ}
@@ -66,7 +66,7 @@ demand3 l a b sel heap xs ha hb hc agree =
       counted-b = counted l b sel heap xs hb hc;
     }
 
--- both areas are accepted for one header: their layouts and openings are the same, and every cursor that is opened has demand 3
+-- both areas are accepted for one header: their layouts and openings are the same, and every cursor that is opened has the claim of `Demand3`
 pub isolation : (h a b : List ℕ) (sel : Selection) (heap : Bool) (xs : List Step) (la lb : BinTable)
     → entry h a ≡ accepted la → entry h b ≡ accepted lb → Agree la a b (choiceOf la sel) heap
     → (la ≡ lb) × ((openWith la a sel heap ≡ openWith lb b sel heap)
