@@ -1,7 +1,7 @@
 -- The plain walk keeps a place that belongs and counts the cells that it hands out. So a cursor that starts where the walk does never gets
 -- a 10, and shows what the walk gives.
 -- Assumes nothing.
-use Prim.Native.Nat.{ℕ, zero, suc, _+_, _-_, _≤_, _<_, min}
+use Prim.Native.Nat.{ℕ, suc, _+_, _≤_, _<_, min}
 use mathlib.Core.Path.{_≡_, refl, ap, _∙_}
 use mathlib.Core.Logic.{_≢_}
 use mathlib.Core.Bool.{Bool, true, or-true}
@@ -16,9 +16,10 @@ use Rattle.cell.specs.declared.Cell.{Cell}
 use Rattle.walk.specs.declared.Entry.{Entry}
 use Rattle.walk.specs.declared.Entry.the-variants as E
 use Rattle.walk.specs.Plain.{rowEntries}
-use Rattle.walk.specs.Walk.{Step, readCell, readRow, seek, State, Outcome, Reply, gotCell, gotRow, sought, atEnd, refused, stop, start, placed, grown, Next, entryAt, noEntry, Gathered, allCells, outside, next, nextEntry, rest, cellOutcome, rowOutcome, walkStep, walk, placeOk, handed}
+use Rattle.walk.specs.Walk.{Step, readCell, readRow, seek, State, Outcome, Reply, gotCell, gotRow, sought, atEnd, refused, stop, start, placed, grown, Next, entryAt, noEntry, Gathered, allCells, outside, nextEntry, rest, cellOutcome, rowOutcome, walkStep, walk, placeOk, handed}
 use Rattle.walk.specs.Step.{fits, choiceOk, belongs, cursorAt, withCursor, cursorStep, run}
 use Rattle.walk.specs.Agree.{Counted}
+use Rattle.walk.proofs.Laws.{IsNext, is-next}
 
 -- the number of a refusal; 0 for any other answer
 abbrev pub refusalNumber : Reply → ℕ
@@ -39,16 +40,6 @@ module _ (rows : ℕ → List Entry) (n : ℕ) where
   pub ok-inside : (r p : ℕ) → r < n → p < length (rows r) → placeOk rows n r p ≡ true
   unfolding placeOk
   ok-inside r p hr hp = rw (lt-ltb r n hr, lt-ltb p (length (rows r)) hp, or-true)
-
-  abbrev Inside : Next → Type 0
-  Inside noEntry = Unit {0}
-  Inside (entryAt r p e) = r < n
-
-  next-inside : (k r p : ℕ) → k ≤ n - r → Inside (next rows n k r p)
-  unfolding next
-  next-inside zero r p h = tt
-  next-inside (suc k) r p h =
-      by-test Inside (ltb p (length (rows r))) (λ e. omega arith) (λ e. next-inside k (suc r) _ (omega arith))
 
   -- ---- what the walk keeps is ok, and what a step from s comes to: what is kept stays ok, the count grows by the cells handed out, and
   -- there is no 10
@@ -75,13 +66,13 @@ module _ (rows : ℕ → List Entry) (n : ℕ) where
     stays y list h u = goes y list s (ok .place) (omega (arith, ok .low)) u
 
   module _ (s : State) (ok : StateOk s) where
-    cell-ok : (y : Next) → Inside y → StepOk s readCell (cellOutcome rows n s y)
+    cell-ok : (y : Next) → IsNext rows n y → StepOk s readCell (cellOutcome rows n s y)
     cell-ok noEntry h = goes s ok readCell atEnd [] (placed s n 0) (ok-start n (omega arith)) (omega (arith, ok .low)) (omega arith)
     cell-ok (entryAt r p (E.OutsideHeap k)) h = stays s ok readCell (refused 13 k) [] refl (omega arith)
     cell-ok (entryAt r p (E.Cell c)) h =
         by-test (λ (t : State). StepOk s readCell (record { reply = gotCell c; list = []; state = t })) (ltb (suc p) (length (rows r)))
-        (λ e. goes s ok readCell (gotCell c) [] (placed (grown s readCell 1) r (suc p)) (ok-inside r (suc p) h (ltb-true _ _ e)) refl (omega arith))
-        (λ e. goes s ok readCell (gotCell c) [] (placed (grown s readCell 1) (suc r) 0) (ok-start (suc r) h) refl (omega arith))
+        (λ e. goes s ok readCell (gotCell c) [] (placed (grown s readCell 1) r (suc p)) (ok-inside r (suc p) (h .1 .1) (ltb-true _ _ e)) refl (omega arith))
+        (λ e. goes s ok readCell (gotCell c) [] (placed (grown s readCell 1) (suc r) 0) (ok-start (suc r) (h .1 .1)) refl (omega arith))
 
     row-ok : (list : List Cell) (g : Gathered) → s .row < n → StepOk s (readRow list) (rowOutcome rows n s list g)
     row-ok list (outside k) h = stays s ok (readRow list) (refused 13 k) list refl (omega arith)
@@ -94,7 +85,7 @@ module _ (rows : ℕ → List Entry) (n : ℕ) where
 
     pub step-ok : (x : Step) → StepOk s x (walkStep rows n s x)
     unfolding walkStep
-    step-ok readCell = cell-ok (nextEntry rows n s) (next-inside (n - s .row) (s .row) (s .passed) (omega arith))
+    step-ok readCell = cell-ok (nextEntry rows n s) (is-next rows n (s .row) (s .passed))
     step-ok (readRow list) =
         by-test (StepOk s (readRow list)) (ltb (s .row) n) (λ e. row-ok list (rest rows n s) (ltb-true _ _ e))
         (λ e. stays s ok (readRow list) atEnd list refl (omega arith))

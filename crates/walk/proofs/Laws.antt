@@ -142,7 +142,7 @@ module _ (rows : ℕ → List Entry) (n : ℕ) where
   unfolding next
   next-from zero r p h = tt
   next-from (suc k) r p h =
-      by-test IsNext (ltb p (length (rows r))) (λ e. (refl, (ltb-true p _ e, omega arith))) (λ e. next-from k (suc r) 0 (omega arith))
+      by-test IsNext (ltb p (length (rows r))) (λ e. (refl, (ltb-true p _ e, omega arith))) (λ e. next-from k (suc r) _ (omega arith))
 
   pub is-next : (r p : ℕ) → IsNext (next rows n (n - r) r p)
   is-next r p = next-from (n - r) r p (omega arith)
