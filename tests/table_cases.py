@@ -14,7 +14,9 @@ the layout are read by layout_cases.py, which is such a reader too.
 
 A case is a header, a data area, a second area (often empty), a choice of columns, a heap setting, and steps. The entry
 gets the header and the first area. The opening and each step say which of the areas they are lent, and how many bytes
-of it at most. A step may also give the cursor any place and count, or any columns.
+of it at most. A step may also give the cursor any place and count, or any columns. A row read says how long its list
+is; the list is full of one cell that no table has, and is shown after the step. A read or seek is done by value or over
+a lent cursor: which of the two is left to chance, and the reader below knows no difference.
 """
 import collections
 import os
@@ -31,11 +33,15 @@ MOST_HEADER = 3 * BLOCK
 MOST_INDEXES = 128
 KEPT = 24
 LARGEST_COUNT = 4294967295
+MOST_CELLS = 512
 
 # ---- the plain list ----
 
 Cell = collections.namedtuple('Cell', 'row column idx kind value')
 Bad = collections.namedtuple('Bad', 'column')
+
+# what a list is full of before a row read
+UNTOUCHED = Cell(999, 99, 9, 'X', [165])
 
 
 def number(of):
@@ -165,16 +171,44 @@ class Walk:
             raise Refused(12, row)
         self.row, self.passed = row, 0
 
-    def step(self, step, area):
-        """What a step answers, as it is printed."""
+    def next_row(self, area, cells):
+        """A row read into a list: the number of cells, or None at the end."""
+        if not self.belongs(area):
+            raise Refused(10, 0)
+        if self.row == self.layout.rows:
+            return None
+        left = self.entries(area, self.row)[self.passed:]
+        for entry in left:
+            if isinstance(entry, Bad):
+                raise Refused(13, entry.column)
+        if len(cells) < len(left):
+            raise Refused(14, len(left))
+        cells[:len(left)] = left
+        self.row, self.passed = self.row + 1, 0
+        self.count = min(self.count + len(left), LARGEST_COUNT)
+        return len(left)
+
+    def answer(self, step, area, cells):
+        """What a step answers, as it is printed, and how many cells it put into its list."""
         try:
             if step.kind == SEEK:
                 self.seek(area, step.row)
-                return 'sought'
+                return 'sought', 0
+            if step.kind == ROW:
+                handed = self.next_row(area, cells)
+                return ('end', 0) if handed is None else ('row %d' % handed, handed)
             cell = self.next(area)
-            return 'end' if cell is None else told(cell)
+            return 'end' if cell is None else told(cell), 0
         except Refused as refusal:
-            return 'refused %d %d' % refusal.args
+            return 'refused %d %d' % refusal.args, 0
+
+    def step(self, step, area):
+        """The lines of a step: its answer, the place afterwards, and the list of a row read."""
+        cells = [UNTOUCHED] * step.row if step.kind == ROW else []
+        size = len(cells)
+        answer, handed = self.answer(step, area, cells)
+        assert len(cells) == size
+        return [answer, self.place()] + listed(cells, handed)
 
     def place(self):
         return 'at %d %d %d' % (self.row, self.passed, self.count)
@@ -183,6 +217,16 @@ class Walk:
 def told(cell):
     words = ['cell', cell.row, cell.column, cell.idx, cell.kind] + cell.value
     return ' '.join(str(word) for word in words)
+
+
+def is_shown(k, size, handed):
+    """Whether cell k of a list is printed: all of a short one; of a long one the first eight, those up to two away from
+    where the row read ended, and the last two."""
+    return size <= 24 or k < 8 or abs(k - handed) <= 2 or k >= size - 2
+
+
+def listed(cells, handed):
+    return ['list %d %s' % (k, told(cell)) for k, cell in enumerate(cells) if is_shown(k, len(cells), handed)]
 
 
 def said_of(case):
@@ -206,7 +250,7 @@ def said_of(case):
                 walk.choice = [c for c in range(64) if step.row >> c & 1]
                 lines += ['put', walk.place()]
             else:
-                lines += [walk.step(step, lent(case, step.lent)), walk.place()]
+                lines += walk.step(step, lent(case, step.lent))
     return lines
 
 
@@ -218,14 +262,14 @@ def lent(case, of):
 # ---- making cases ----
 
 Case = collections.namedtuple('Case', 'why said header area other indexes heap opening steps')
-Step = collections.namedtuple('Step', 'kind row times lent')
+Step = collections.namedtuple('Step', 'kind row times lent over', defaults=[False])
 Place = collections.namedtuple('Place', 'passed count')
 Lent = collections.namedtuple('Lent', 'other most')
 
 FAR = 2 ** 32 - 1
 WHOLE = Lent(False, FAR)
 ALL64 = 2 ** 64 - 1
-READ, SEEK, PUT, CHOOSE = 0, 1, 2, 3
+READ, SEEK, PUT, CHOOSE, ROW = 0, 1, 2, 3, 4
 
 
 def reads(times=1, of=WHOLE):
@@ -234,6 +278,16 @@ def reads(times=1, of=WHOLE):
 
 def seek(row, of=WHOLE):
     return [Step(SEEK, row, 1, of)]
+
+
+def row_reads(size, times=1, of=WHOLE):
+    """Row reads into a list of so many cells."""
+    return [Step(ROW, size, times, of)]
+
+
+def flagged(rng, steps):
+    """Half of the reads and seeks are done over a lent cursor."""
+    return [step._replace(over=step.kind not in (PUT, CHOOSE) and rng.random() < 0.5) for step in steps]
 
 
 def put(row, passed, count=0):
@@ -288,21 +342,24 @@ def case(why, said, forms, rows, steps, heap=b'', gap=None, extra=b'', indexes=N
     assert all(len(row) == naxis1 for row in rows), why
     area = b''.join(rows) + heap + extra
     area = area[:len(area) - short]
-    return Case(why, said, header_of(forms, len(rows), len(heap), gap), area, other, indexes, follow, opening, steps)
+    return Case(why, said, header_of(forms, len(rows), len(heap), gap), area, other, indexes, follow, opening,
+                flagged(random.Random(why), steps))
 
 
 def answers(lines):
-    """The answers of a case in short: the numbers of each cell, `end`, `sought`, or a refusal as 13:0."""
-    made = []
+    """The answers of a case in short: the numbers of each cell, `end`, `sought`, a refusal as 13:0, the number of a row
+    read as row:2. A list that is not empty stands behind, each cell by its numbers or as _ where none was stored."""
+    made, lists = [], []
     for line in lines[1:]:
         words = line.split()
-        if words[0] == 'cell':
-            made.append(','.join(words[5:]))
-        elif words[0] == 'refused':
-            made.append(':'.join(words[1:]))
-        elif words[0] in ('end', 'sought', 'put'):
-            made.append(words[0])
-    return ' '.join(made)
+        if words[0] == 'list':
+            untouched = words[2:] == told(UNTOUCHED).split()
+            lists[-1].append('_' if untouched else ','.join(words[7:]))
+        elif words[0] not in ('at', 'opened'):
+            short = {'cell': ','.join(words[5:]), 'refused': ':'.join(words[1:]), 'row': ':'.join(words)}
+            made.append(short.get(words[0], words[0]))
+            lists.append([])
+    return ' '.join(one + ('[%s]' % ';'.join(cells) if cells else '') for one, cells in zip(made, lists))
 
 
 def be(width, *numbers):
@@ -656,10 +713,176 @@ def place_cases():
     ]
 
 
+def row_read_cases():
+    """Rows into lists: how much is left of a row, and how long the list is."""
+    rows = [be(2, 10, 11), be(2, 20, 21)]
+    four, four_rows = ['3B', '1I'], [be(1, 1, 2, 3) + be(2, 258), be(1, 4, 5, 6) + be(2, -1)]
+    holes = [p(0, 0), p(0, FAR), p(2, 0), p(0, 0), p(1, 1), p(0, 5)]
+    every = [''.join(pair) for pair in zip('3111111111', LETTERS)] + ['1M']
+    every_row = b''.join(run(letter, 3 if letter == 'L' else 1) for letter in LETTERS)
+    return [
+        case('row reads of the example', 'row:2[1;8000;_] row:2[-1;42;_] end[_;_;_] end[_;_;_]', EXAMPLE, EXAMPLE_ROWS,
+             row_reads(3, 4)),
+        case('a list just long enough, one too short, none at all',
+             'row:2[10;11] 14:2[_] 14:2 row:2[20;21] end end[_]', ['2I'], rows,
+             row_reads(2) + row_reads(1) + row_reads(0) + row_reads(2) + row_reads(0) + row_reads(1)),
+        case('the rest of a row after cell reads', '1 row:3[2;3;258;_] 4 5 6 row:1[-1;_] end[_;_]', four, four_rows,
+             reads() + row_reads(4) + reads(3) + row_reads(2, 2)),
+        case('14 tells the cells in the rest', '14:4[_;_;_] 1 14:3 14:3[_;_] 2 14:2[_] row:2[3;258] 14:4 4',
+             four, four_rows, row_reads(3) + reads() + row_reads(0) + row_reads(2) + reads() + row_reads(1)
+             + row_reads(2) + row_reads(0) + reads()),
+        case('a row whose cells are all read leads to the next', '10 11 row:2[20;21;_] end[_;_;_]', ['2I'], rows,
+             reads(2) + row_reads(3, 2)),
+        case('cell reads between row reads', 'row:2[10;11] 20 row:1[21;_] end end[_] sought row:2[10;11;_] 20', ['2I'],
+             rows, row_reads(2) + reads() + row_reads(2) + reads() + row_reads(1) + seek(0) + row_reads(3) + reads()),
+        case('a row read stops at each empty row, a cell read passes them',
+             'row:0[_] row:0 row:2[7;8;_] row:0[_] row:1[8] row:0 end[_] sought 7 row:1[8;_] 8 row:0[_] end', ['1PB'],
+             holes, row_reads(1) + row_reads(0) + row_reads(3) + row_reads(1, 2) + row_reads(0) + row_reads(1) + seek(0)
+             + reads() + row_reads(2) + reads() + row_reads(1) + reads(), heap=be(1, 7, 8)),
+        case('rows of no bytes into lists', 'row:0 row:0[_] row:0[_;_;_;_] end end[_] 12:3 sought row:0 end',
+             ['0E', '0X'], 3, row_reads(0) + row_reads(1) + row_reads(4) + row_reads(0) + row_reads(1) + seek(3)
+             + seek(2) + row_reads(0) + reads()),
+        case('100,000 rows of no bytes into lists', 'row:0 row:0 sought row:0[_] end sought row:0 row:0[_;_] end[_;_]',
+             ['0K'], 100000, row_reads(0, 2) + seek(99999) + row_reads(1) + row_reads(0) + seek(99998) + row_reads(0)
+             + row_reads(2, 2)),
+        case('NAXIS2 0: a row read is at the end', 'end end[_;_] 12:0 end[_]', ['1I', '1PB'], [],
+             row_reads(0) + row_reads(2) + seek(0) + row_reads(1), heap=b'abc'),
+        case('row reads after the end', '10 11 20 21 end end end[_;_] sought row:2[20;21;_] end end[_]', ['2I'], rows,
+             reads(5) + row_reads(0) + row_reads(2) + seek(1) + row_reads(3) + reads() + row_reads(1)),
+        case('seeks between row reads', 'sought row:2[20;21;_] sought row:2[10;11] 20 sought 14:2[_] row:2[20;21] 12:2 '
+             'end[_;_] sought 10 12:7 row:1[11;_]', ['2I'], rows,
+             seek(1) + row_reads(3) + seek(0) + row_reads(2) + reads() + seek(1) + row_reads(1) + row_reads(2) + seek(2)
+             + row_reads(2) + seek(0) + reads() + seek(7) + row_reads(2)),
+        case('row reads of a choice', 'row:2[1;258;_] 14:2[_] 4 row:1[-1;_] end', ['1B', '2B', '1I'], four_rows,
+             row_reads(3) + row_reads(1) + reads() + row_reads(2) + row_reads(0), indexes=[2, 0, 2, 9]),
+        case('row reads of a chosen column of no items', 'row:0 row:0[_;_] end', ['2B', '0J'], [b'ab', b'cd'],
+             row_reads(0) + row_reads(2) + row_reads(0), indexes=[1]),
+        case('row reads of every letter', None, every, [every_row, every_row[::-1]],
+             row_reads(13) + seek(0) + reads(4) + row_reads(12, 2) + row_reads(13) + seek(0) + row_reads(12)),
+        case('long lists: 25 cells into 24, 25, 26, 27 and 40',
+             '14:25[%s] row:25[%s] sought row:25[%s] sought row:25[%s] sought row:25[%s]' % (
+                 ';'.join('_' * 24), '0;1;2;3;4;5;6;7;23;24', '0;1;2;3;4;5;6;7;23;24;_',
+                 '0;1;2;3;4;5;6;7;23;24;_;_', '0;1;2;3;4;5;6;7;23;24;_;_;_;_;_'), ['25B'], [bytes(range(25))],
+             row_reads(24) + row_reads(25) + seek(0) + row_reads(26) + seek(0) + row_reads(27) + seek(0)
+             + row_reads(40)),
+        case('512 cells into 512, and 513 of them',
+             'put 14:512[%s] row:512[%s] put 14:513[%s] 0 row:512[%s] end[%s]' % (
+                 ';'.join('_' * 10), '0;1;2;3;4;5;6;7;254;255', ';'.join('_' * 10), '1;2;3;4;5;6;7;8;255;0',
+                 ';'.join('_' * 10)), ['256B', '256B', '0B', '1B'],
+             [bytes(range(256)) * 2 + b'\x09', bytes(range(256)) * 2 + b'\x00'],
+             choose(0, 1) + row_reads(511) + row_reads(512) + choose(0, 1, 3) + row_reads(512) + reads()
+             + row_reads(512) + row_reads(511)),
+    ]
+
+
+def row_heap_cases():
+    """Row reads of arrays."""
+    forms, heap = ['2B', '1PI', '1B'], be(1, 7, 8)
+    bad = [be(1, 1, 2) + p(1, 1) + be(1, 9), be(1, 3, 7) + p(0, 1) + be(1, 4), be(1, 5, 6) + p(1, 0) + be(1, 8)]
+    mixed = ['1PB', '1B', '1QI']
+    mixed_rows = [p(3, 0) + be(1, 50) + q(1, 1), p(0, 9) + be(1, 60) + q(0, ALL64), p(1, 2) + be(1, 70) + q(0, 0)]
+    counts = [3, 9, 2, 1, 2, 3, 4, 2, 1, 2, 1]
+    made = []
+    for letter, descriptor in (('P', p), ('Q', q)):
+        one, full = arrays(descriptor, counts)
+        none = [descriptor(0, 0)] * len(LETTERS)
+        for follow in (True, False):
+            made.append(case('row reads of %s of every letter, heap %s' % (letter, 'on' if follow else 'off'), None,
+                             ['1' + letter + element for element in LETTERS], [one, none],
+                             row_reads(22) + row_reads(23) + row_reads(11) + seek(0) + reads(4) + row_reads(25)
+                             + row_reads(0), heap=full, follow=follow))
+    made += [
+        case('13 comes before 14, and nothing is stored',
+             '13:1 13:1[_;_;_;_;_] 1 13:1[_] 13:1[_;_] 2 13:1[_] 13:1 13:1 sought row:3[3;7;4] row:4[5;6;1800;8]',
+             forms, bad, row_reads(0) + row_reads(5) + reads() + row_reads(1) + row_reads(2) + reads() + row_reads(1)
+             + row_reads(0) + reads() + seek(1) + row_reads(3) + row_reads(4), heap=heap),
+        case('a 13 that is passed is not in the rest', 'put 14:1 row:1[9;_] put 13:1[_;_] put 10:0[_;_]', forms, bad,
+             put(0, 3, 7) + row_reads(0) + row_reads(2) + put(0, 2) + row_reads(2) + put(0, 4) + row_reads(2),
+             heap=heap),
+        case('row reads beside a 13 whose column is not chosen', 'row:3[1;2;9] row:3[3;7;4] 14:3[_;_]', forms, bad,
+             row_reads(3, 2) + row_reads(2), heap=heap, indexes=[0, 2]),
+        case('row reads of the same, the heap off', 'row:4[1;2;1,1;9] 14:4[_;_;_] 3 7 row:2[0,1;4;_] row:4[5;6;1,0;8]',
+             forms, bad, row_reads(4) + row_reads(3) + reads(2) + row_reads(3) + row_reads(4), heap=heap,
+             follow=False),
+        case('two 13s: a row read tells the first in the rest', '13:1[_] put 13:2[_] 13:2 put 10:0',
+             ['1PB', '1PB', '1QB'], [p(0, 0) + p(3, 0) + q(3, 0)],
+             row_reads(1) + put(0, 1) + row_reads(1) + row_reads(0) + put(0, 2) + row_reads(0), heap=heap),
+        case('a 13 in a later row does not matter yet', 'row:2[7;8;_] row:0[_] 13:0[_] 13:0', ['1PB'],
+             [p(2, 0), p(0, 3), p(3, 0)], row_reads(3) + row_reads(1, 2) + reads(), heap=heap),
+        case('a cell read that meets a 13 behind empty rows, then row reads', '13:0 row:0[_] row:0 13:0[_] 13:0',
+             ['1PB'], [p(0, 0), p(0, 1), p(9, 0)], reads() + row_reads(1) + row_reads(0) + row_reads(1) + reads(),
+             heap=heap),
+        case('the rest of an array, and what is behind it',
+             '7 row:4[8;9;50;2057;_] row:1[60] 14:2[_] 9 row:1[70] end sought 7 8 9 row:2[50;2057] sought 7 8 9 50 '
+             'row:1[2057]', mixed, mixed_rows,
+             reads() + row_reads(5) + row_reads(1) + row_reads(1) + reads() + row_reads(1) + row_reads(0) + seek(0)
+             + reads(3) + row_reads(2) + seek(0) + reads(4) + row_reads(1), heap=be(1, 7, 8, 9)),
+        case('extreme numbers in a list', 'row:7[-32768;32767;-9223372036854775808;2143289344;9221120237041090560,1;'
+             '3,116;2]', ['1PI', '1QK', '1PE', '1QM', '1PL'], [p(2, 0) + q(1, 4) + p(1, 12) + q(1, 16) + p(2, 32)],
+             row_reads(7),
+             heap=be(2, -32768, 32767) + be(8, -2 ** 63) + be(4, 0x7FC00000) + be(8, DOUBLES[3], 1) + b't\0'),
+        case('900 cells of one heap', '14:900[%s] put 14:513[%s] 87 row:512[%s]' % (
+            ';'.join('_' * 10), ';'.join('_' * 10), '88;89;90;91;92;93;94;95;42;43'), ['1PB', '1QB', '1PX'],
+            [p(300, 0) + q(300, 0) + p(2400, 0)], row_reads(512) + put(0, 387) + row_reads(512) + reads()
+            + row_reads(512), heap=bytes(k % 256 for k in range(300))),
+    ]
+    return made
+
+
+def row_place_cases():
+    """Row reads that are lent what does not belong, or almost."""
+    rows = [be(2, 10, 11), be(2, 20, 21)]
+    forms, heap = ['1PB', '1B'], be(1, 7, 8, 9)
+    whole = [p(3, 0) + b'\x01', p(0, 0) + b'\x02']
+    less = p(1, 2) + b'\x04' + p(2, 0) + b'\x05' + be(1, 17, 18, 19)
+    worse = p(4, 0) + b'\x04' + p(0, 0) + b'\x05' + be(1, 17, 18, 19)
+    return [
+        case('the count of row reads stops', 'put row:2[10;11] row:2[20;21] put row:2[20;21] put 14:2[_] row:2[10;11] '
+             'put row:1[11] row:2[20;21;_] end', ['2I'], rows,
+             put(0, 0, LARGEST_COUNT - 3) + row_reads(2, 2) + put(1, 0, LARGEST_COUNT - 2) + row_reads(2)
+             + put(0, 0, LARGEST_COUNT - 1) + row_reads(1) + row_reads(2) + put(0, 1, LARGEST_COUNT) + row_reads(1)
+             + row_reads(3) + row_reads(0)),
+        case('row reads from places inside rows and behind them', 'put row:1[11;_] put 14:1 put 10:0[_;_] put 10:0 '
+             'put end[_] put 10:0[_] put 10:0[_;_] put 10:0[_;_;_] put 10:0 put row:2[20;21]', ['2I'], rows,
+             put(0, 1, 5) + row_reads(2) + put(1, 1, 6) + row_reads(0) + put(0, 2, 7) + row_reads(2) + put(1, FAR)
+             + row_reads(0) + put(2, 0, 9) + row_reads(1) + put(2, 1) + row_reads(1) + put(3, 0, 1) + row_reads(2)
+             + put(ALL64, 0) + row_reads(3) + put(2 ** 32, 0) + row_reads(0) + put(1, 0, 3) + row_reads(2)),
+        case('row reads from places in a row of no entries', 'put 10:0 10:0[_] put row:0 row:0[_] end', ['0E'], 3,
+             put(1, 1) + row_reads(0) + row_reads(1) + put(1, 0, 4) + row_reads(0) + row_reads(1) + row_reads(0)),
+        case('row reads with other choices', 'put row:1[11;_] put 10:0[_] put 10:0[_;_] 10:0 put 10:0 put 20 '
+             'row:1[21;_] put sought 10 put 10:0[_] put row:1[11]', ['1I', '1I'], rows,
+             choose(1) + row_reads(2) + choose() + row_reads(1) + choose(0, 2) + row_reads(2) + row_reads(0)
+             + choose(63) + row_reads(0) + choose(0, 1) + reads() + row_reads(2) + choose(0, 1) + seek(0) + reads()
+             + choose(1) + row_reads(1) + choose(0, 1) + row_reads(1)),
+        case('row reads that are lent less: nothing moves or is stored',
+             '10:0[_;_] 10:0 row:2[10;11;_] 10:0[_] 20 10:0[_;_;_] row:1[21] 10:0[_] 10:0 end', ['2I'], rows,
+             row_reads(2, of=first(7)) + row_reads(0, of=first(0)) + row_reads(3, of=first(8))
+             + row_reads(1, of=first(7)) + reads() + row_reads(3, of=first(7)) + row_reads(1)
+             + row_reads(1, of=first(7)) + row_reads(0, of=first(7)) + row_reads(0, of=first(8)), extra=bytes(5)),
+        case('10 comes before 13 and 14', '10:0[_] 10:0 13:0[_] 13:0', forms, [p(4, 0) + b'\x01'],
+             row_reads(1, of=first(11)) + row_reads(0, of=first(8)) + row_reads(1) + row_reads(0), heap=heap),
+        case('row reads of another area',
+             '7 row:1[4;_;_;_] row:3[17;18;5] sought 7 8 10:0[_;_;_;_] row:2[9;1;_;_] row:1[2]', forms, whole,
+             reads() + row_reads(4, of=OTHER) + row_reads(3, of=OTHER) + seek(0) + reads(2) + row_reads(4, of=OTHER)
+             + row_reads(4) + row_reads(1), heap=heap, other=less),
+        case('row reads of another area with a 13: one entry', '7 14:1 row:1[4;_] sought 13:0[_;_;_] 13:0 '
+             'row:4[7;8;9;1] row:1[5]', forms, whole, reads() + row_reads(0, of=OTHER) + row_reads(2, of=OTHER)
+             + seek(0) + row_reads(3, of=OTHER) + reads(1, OTHER) + row_reads(4) + row_reads(1, of=OTHER), heap=heap,
+             other=worse),
+        case('row reads of another area, the heap off', '3,0 row:1[4;_] row:2[0,0;2] end', forms, whole,
+             reads() + row_reads(2, of=OTHER) + row_reads(2) + row_reads(0), heap=heap, other=worse, follow=False),
+        case('row reads of another area where the row is empty',
+             '1 10:0[_;_] row:1[2;_] row:0 end[_] sought row:0[_] row:1[1]', ['1PB'], [p(2, 0), p(1, 0)],
+             reads() + row_reads(2, of=OTHER) + row_reads(2) + row_reads(0, of=OTHER)
+             + row_reads(1, of=OTHER) + seek(0) + row_reads(1, of=OTHER) + row_reads(1), heap=be(1, 1, 2),
+             other=bytes(18)),
+    ]
+
+
 def named():
     """All of them."""
     return (value_cases() + heap_cases() + end_cases() + row_cases() + choice_cases() + seek_cases() + area_cases()
-            + place_cases())
+            + place_cases() + row_read_cases() + row_heap_cases() + row_place_cases())
 
 
 # ---- random cases ----
@@ -722,6 +945,8 @@ def random_form(rng, style):
     digits = rng.choice(['0'] if style == 'empty' and letter not in 'PQ' else COUNTS)
     if letter in 'PQ':
         return digits + letter + rng.choice(LETTERS) + rest
+    if letter in 'LBA' and rng.randrange(25) == 0:
+        digits = rng.choice(['25', '26', '100', '500', '511', '512', '513', '600'])
     return digits + letter + rest
 
 
@@ -760,8 +985,14 @@ def random_row(rng, rows):
     return rng.choice(list(range(rows)) * 8 + near)
 
 
-def random_steps(rng, rows, columns, total, area, other):
-    made = []
+def random_size(rng, sizes):
+    """How long the list of a row read is: about as long as a row, or any."""
+    near = rng.choice(sizes or [0]) + rng.choice([-2, -1, -1, 0, 0, 0, 1, 2, 7])
+    return min(MOST_CELLS, max(0, rng.choice([near] * 9 + [0, 1, 24, 25, 511, MOST_CELLS, rng.randrange(40)])))
+
+
+def random_steps(rng, rows, columns, sizes, area, other):
+    made, total = [], sum(sizes)
     for _ in range(rng.choice([1, 2, 4, 8, 12])):
         of = random_lent(rng, area, other)
         forge = rng.randrange(40)
@@ -771,12 +1002,17 @@ def random_steps(rng, rows, columns, total, area, other):
         elif forge == 1:
             top = min(64, columns + rng.choice([0, 0, 0, 1])) or 1
             made += choose(*[rng.randrange(top) for _ in range(rng.randrange(4))])
-        elif rng.randrange(2):
+        elif rng.randrange(3) == 0:
             made += reads(rng.choice([1, 1, 1, 2, 3, 10]), of)
+        elif rng.randrange(3):
+            made += row_reads(random_size(rng, sizes), rng.choice([1, 1, 1, 2, 3]), of)
         else:
             made += seek(random_row(rng, rows), of)
     whole = reads(min(255, max(1, total + rng.choice([-1, 0, 1, 2]))))
-    return rng.choice([made, made, made + seek(0) + whole, whole + made])
+    by_row = row_reads(min(MOST_CELLS, max(sizes or [0]) + rng.choice([0, 0, 1, 5])), rows + rng.choice([1, 1, 2]))
+    again = seek(random_row(rng, rows))
+    return flagged(rng, rng.choice([made, made, made, made + seek(0) + whole, whole + again + made,
+                                    made + seek(0) + by_row, by_row + again + made]))
 
 
 def random_case(rng):
@@ -801,14 +1037,14 @@ def random_case(rng):
     indexes = None if rng.randrange(2) else random_indexes(rng, columns)
     follow = rng.randrange(4) != 0
     opening = random_lent(rng, area, other) if rng.randrange(8) == 0 else WHOLE
-    total = 0
+    sizes = []
     try:
         layout = layout_of(header, len(area))
         choice = choice_of(layout, indexes)
-        total = sum(len(row_entries(layout, area, choice, follow, row)) for row in range(rows))
+        sizes = [len(row_entries(layout, area, choice, follow, row)) for row in range(rows)]
     except Refused:
         pass
-    steps = random_steps(rng, rows, columns, total, area, other)
+    steps = random_steps(rng, rows, columns, sizes, area, other)
     return Case('random', None, header, area, other, indexes, follow, opening, steps)
 
 
@@ -852,7 +1088,8 @@ def packed_header(header):
 
 def packed_step(one, step):
     assert 0 < step.times < 256
-    made = struct.pack('>BBQ', step.kind, step.times, step.row)
+    assert step.kind != ROW or step.row <= MOST_CELLS
+    made = struct.pack('>BBQ', step.kind + 128 * step.over, step.times, step.row)
     return made + (struct.pack('>II', *step.lent) if step.kind == PUT else packed_lent(one, step.lent))
 
 
@@ -874,13 +1111,25 @@ def expected(cases):
     return ''.join(line + '\n' for line in lines)
 
 
+def runs_of(cases):
+    """How often each kind of step is done, by value and over a lent cursor."""
+    runs = collections.Counter()
+    for one in cases:
+        if 'opened' in said_of(one):
+            for step in one.steps:
+                runs[step.kind, step.over] += step.times
+    names = {READ: 'cell reads', SEEK: 'seeks', ROW: 'row reads'}
+    return ', '.join('%s %d + %d lent' % (names[kind], runs[kind, False], runs[kind, True]) for kind in names)
+
+
 def tell(cases, size, said):
     """The counts, to standard error."""
     words = collections.Counter(' '.join(line.split()[:2]) if line.startswith('refused') else line.split()[0]
                                 for line in said.splitlines())
     told_counts = ', '.join('%s %d' % (word, words[word]) for word in sorted(words) if word not in ('case', 'at'))
     steps = words['at'] - words['opened']
-    print('%d cases, %d steps, %d bytes; %s' % (len(cases), steps, size, told_counts), file=sys.stderr)
+    print('%d cases, %d steps, %d bytes; %s; %s' % (len(cases), steps, size, runs_of(cases), told_counts),
+          file=sys.stderr)
 
 
 def write(cases, folder, most):
@@ -1087,6 +1336,166 @@ refused 10 0
 accepted
 refused 11 0
 ''',
+    'row reads of the example': '''
+accepted
+opened
+at 0 0 0
+row 2
+at 1 0 2
+list 0 cell 0 0 0 I 1
+list 1 cell 0 1 0 J 8000
+list 2 cell 999 99 9 X 165
+row 2
+at 2 0 4
+list 0 cell 1 0 0 I -1
+list 1 cell 1 1 0 J 42
+list 2 cell 999 99 9 X 165
+end
+at 2 0 4
+list 0 cell 999 99 9 X 165
+list 1 cell 999 99 9 X 165
+list 2 cell 999 99 9 X 165
+end
+at 2 0 4
+list 0 cell 999 99 9 X 165
+list 1 cell 999 99 9 X 165
+list 2 cell 999 99 9 X 165
+''',
+    'the rest of a row after cell reads': '''
+accepted
+opened
+at 0 0 0
+cell 0 0 0 B 1
+at 0 1 1
+row 3
+at 1 0 4
+list 0 cell 0 0 1 B 2
+list 1 cell 0 0 2 B 3
+list 2 cell 0 1 0 I 258
+list 3 cell 999 99 9 X 165
+cell 1 0 0 B 4
+at 1 1 5
+cell 1 0 1 B 5
+at 1 2 6
+cell 1 0 2 B 6
+at 1 3 7
+row 1
+at 2 0 8
+list 0 cell 1 1 0 I -1
+list 1 cell 999 99 9 X 165
+end
+at 2 0 8
+list 0 cell 999 99 9 X 165
+list 1 cell 999 99 9 X 165
+''',
+    'a row read stops at each empty row, a cell read passes them': '''
+accepted
+opened
+at 0 0 0
+row 0
+at 1 0 0
+list 0 cell 999 99 9 X 165
+row 0
+at 2 0 0
+row 2
+at 3 0 2
+list 0 cell 2 0 0 B 7
+list 1 cell 2 0 1 B 8
+list 2 cell 999 99 9 X 165
+row 0
+at 4 0 2
+list 0 cell 999 99 9 X 165
+row 1
+at 5 0 3
+list 0 cell 4 0 0 B 8
+row 0
+at 6 0 3
+end
+at 6 0 3
+list 0 cell 999 99 9 X 165
+sought
+at 0 0 3
+cell 2 0 0 B 7
+at 2 1 4
+row 1
+at 3 0 5
+list 0 cell 2 0 1 B 8
+list 1 cell 999 99 9 X 165
+cell 4 0 0 B 8
+at 5 0 6
+row 0
+at 6 0 6
+list 0 cell 999 99 9 X 165
+end
+at 6 0 6
+''',
+    'a 13 that is passed is not in the rest': '''
+accepted
+opened
+at 0 0 0
+put
+at 0 3 7
+refused 14 1
+at 0 3 7
+row 1
+at 1 0 8
+list 0 cell 0 2 0 B 9
+list 1 cell 999 99 9 X 165
+put
+at 0 2 0
+refused 13 1
+at 0 2 0
+list 0 cell 999 99 9 X 165
+list 1 cell 999 99 9 X 165
+put
+at 0 4 0
+refused 10 0
+at 0 4 0
+list 0 cell 999 99 9 X 165
+list 1 cell 999 99 9 X 165
+''',
+    'the count of row reads stops': '''
+accepted
+opened
+at 0 0 0
+put
+at 0 0 4294967292
+row 2
+at 1 0 4294967294
+list 0 cell 0 0 0 I 10
+list 1 cell 0 0 1 I 11
+row 2
+at 2 0 4294967295
+list 0 cell 1 0 0 I 20
+list 1 cell 1 0 1 I 21
+put
+at 1 0 4294967293
+row 2
+at 2 0 4294967295
+list 0 cell 1 0 0 I 20
+list 1 cell 1 0 1 I 21
+put
+at 0 0 4294967294
+refused 14 2
+at 0 0 4294967294
+list 0 cell 999 99 9 X 165
+row 2
+at 1 0 4294967295
+list 0 cell 0 0 0 I 10
+list 1 cell 0 0 1 I 11
+put
+at 0 1 4294967295
+row 1
+at 1 0 4294967295
+list 0 cell 0 0 1 I 11
+row 2
+at 2 0 4294967295
+list 0 cell 1 0 0 I 20
+list 1 cell 1 0 1 I 21
+list 2 cell 999 99 9 X 165
+end
+at 2 0 4294967295
+''',
 }
 
 
@@ -1106,7 +1515,7 @@ def main():
         write(random_cases(int(sys.argv[1]), LIMIT - 1), sys.argv[2], LIMIT)
         return
     here = os.path.dirname(os.path.abspath(__file__))
-    write(named(), os.path.join(here, '..', 'crates', 'table_cases'), 65536)
+    write(named(), os.path.join(here, '..', 'crates', 'table_cases'), 98304)
 
 
 if __name__ == '__main__':

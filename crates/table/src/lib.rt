@@ -7,9 +7,11 @@ mod step;
 ghost use mathlib.Core.Path.{_≡_};
 ghost use mathlib.Core.List.{[]};
 ghost use Rattle.walk.specs.Walk.{readCell, seek};
-ghost use Rattle.walk.specs.Step.{allColumns, listed, openWith, openingOf, cursorStep, resultOf};
+ghost use Rattle.walk.specs.Plain.{chosen};
+ghost use Rattle.walk.specs.Step.{allColumns, listed, belongs, openWith, openingOf, cursorStep, resultOf};
 use layout::BinTable;
 use layout::Refusal;
+use layout::TFIELDS_LIMIT;
 use walk::Answer;
 use walk::Opened;
 use walk::Stepped;
@@ -62,4 +64,22 @@ pub fn seek_to_row(layout: BinTable, area: &[u8], cursor: TableData, row: usize)
         cursor,
         answer: Answer::Refused(Refusal::Mismatch),
     }
+}
+
+// Whether column c is in a choice: the row read of `row` asks it too.
+pub fn chosen(choice: u64, c: usize) -> bool
+    ensures { λ r. ⌜ r ≡ chosen choice c ⌝ }
+{
+    if c < TFIELDS_LIMIT {
+        return choice::chosen(choice, c);
+    }
+    false
+}
+
+// Whether a layout, a data area and a cursor belong together, which the row read of `row` asks first. If they do not, every step is refused
+// with 10.
+pub fn belongs(layout: BinTable, area: &[u8], cursor: TableData) -> bool
+    ensures { λ r. ⌜ r ≡ belongs layout (now (area .entry)) cursor ⌝ }
+{
+    belong::belongs(layout, area, cursor)
 }

@@ -172,3 +172,32 @@ pub fn step_at(steps: &[u8], k: usize) -> &[u8] {
     let at = k * 18;
     &steps[at..]
 }
+
+// The kind of a step, without the part that says how its cursor is handed over.
+pub fn kind(step: &[u8]) -> usize {
+    byte_at(step, 0) % 128
+}
+
+pub fn over_lent(step: &[u8]) -> bool {
+    128 <= byte_at(step, 0)
+}
+
+// Whether the step gives the cursor a place or a choice, and calls nothing.
+pub fn puts(step: &[u8]) -> bool {
+    let kind = kind(step);
+    kind == 2 || kind == 3
+}
+
+// The row of a step, or what stands in its place.
+pub fn row(step: &[u8]) -> usize {
+    long_of(from(step, 2))
+}
+
+// The length of a row read's list, 512 at most.
+pub fn list_len(step: &[u8]) -> usize {
+    let n = row(step);
+    if 512 < n {
+        return 512;
+    }
+    n
+}

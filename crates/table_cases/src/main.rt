@@ -1,4 +1,4 @@
-// Prints what `table` answers to the steps of each case in the file cases.bin.
+// Prints what `table` and `row` answer to the steps of each case in the file cases.bin.
 //
 // A case is a run of blocks: its settings, its header, its data areas, the indexes of the chosen columns, and its steps.
 // Before each block stands its length, and before the case the length of them all. Numbers of a length or a place have
@@ -8,28 +8,98 @@
 // lent of the areas (a place and a length), and what the opening is lent. A record of the header is kept as its first
 // 24 bytes. A step is its kind, how often it is done, a row, and what it is lent. Kind 0 is a cell read, 1 a seek. Kind 2 puts
 // the cursor anywhere: at that row, with two numbers in place of what is lent, the entries passed and the count. Kind 3
-// gives it a choice, which stands in place of the row.
+// gives it a choice, which stands in place of the row. Kind 4 is a row read, with the length of its list, 512 at most, in place of
+// the row.
+//
+// 128 more in the kind says that the read or seek is done over a lent cursor, else the cursor goes in by value and comes back. What
+// is printed is the same for both. After a row read stands its list, whose cells were all `other` before.
 mod file;
 mod put;
 
+use cell::Cell;
+use cell::DataValue;
 use layout::BinTable;
 use layout::Check;
 use walk::Opened;
 use walk::Stepped;
 use walk::TableData;
 
-fn step_once(layout: BinTable, area: &[u8], cursor: TableData, step: &[u8]) -> Stepped {
-    if file::byte_at(step, 0) == 1 {
-        let row = file::long_of(file::from(step, 2));
-        return table::seek_to_row(layout, area, cursor, row);
+// What a list is filled with before it is lent: a cell that no table gives.
+fn other() -> Cell {
+    Cell {
+        row: 999,
+        column: 99,
+        idx: 9,
+        value: DataValue::Bit(165),
+    }
+}
+
+fn step_by_value(layout: BinTable, area: &[u8], cursor: TableData, step: &[u8]) -> Stepped {
+    if file::kind(step) == 4 {
+        let read = row::owners::row_cell(layout, area, cursor, other(), file::list_len(step), 0);
+        return read.stepped;
+    }
+    if file::kind(step) == 1 {
+        return table::seek_to_row(layout, area, cursor, file::row(step));
     }
     table::next(layout, area, cursor)
 }
 
+fn step_lent(layout: BinTable, area: &[u8], cursor: TableData, step: &[u8]) -> Stepped {
+    if file::kind(step) == 4 {
+        let n = file::list_len(step);
+        let read = row::owners::next_row_cell(layout, area, cursor, other(), n, 0);
+        return read.stepped;
+    }
+    if file::kind(step) == 1 {
+        return row::owners::seek_to_row(layout, area, cursor, file::row(step));
+    }
+    row::owners::next(layout, area, cursor)
+}
+
+fn step_once(layout: BinTable, area: &[u8], cursor: TableData, step: &[u8]) -> Stepped {
+    if file::over_lent(step) {
+        return step_lent(layout, area, cursor, step);
+    }
+    step_by_value(layout, area, cursor, step)
+}
+
+// Cell k of the list after a row read. The read is done anew for each, from the cursor as it was before.
+fn listed(layout: BinTable, area: &[u8], cursor: TableData, step: &[u8], k: usize) -> Cell {
+    let n = file::list_len(step);
+    if file::over_lent(step) {
+        let read = row::owners::next_row_cell(layout, area, cursor, other(), n, k);
+        return read.cell;
+    }
+    let read = row::owners::row_cell(layout, area, cursor, other(), n, k);
+    read.cell
+}
+
+// The list after a row read that stored so many cells. Cells past them must be as they were, so they are printed too.
+fn print_list(layout: BinTable, area: &[u8], cursor: TableData, step: &[u8], cells: usize) {
+    let n = file::list_len(step);
+    let mut k: usize = 0;
+    while k < n {
+        if put::is_shown(k, n, cells) {
+            put::print_listed(k, listed(layout, area, cursor, step, k));
+        }
+        k += 1;
+    }
+}
+
+fn print_once(layout: BinTable, area: &[u8], cursor: TableData, step: &[u8]) -> TableData {
+    let stepped = step_once(layout, area, cursor, step);
+    put::print_stepped(stepped);
+    if file::kind(step) == 4 {
+        print_list(layout, area, cursor, step, put::cells_read(stepped));
+    }
+    stepped.cursor
+}
+
 // The cursor with the place and count that the step names, or with its choice: column c is in it if bit c is set.
 fn put_cursor(cursor: TableData, step: &[u8]) -> TableData {
-    let number = file::long_of(file::from(step, 2)) as u64;
-    if file::byte_at(step, 0) == 3 {
+    let number = file::row(step) as u64;
+    if file::kind(step) == 3 {
         return TableData {
             choice: number,
             heap: cursor.heap,
@@ -54,16 +124,14 @@ fn print_put(cursor: TableData) -> TableData {
 }
 
 fn print_step(layout: BinTable, area: &[u8], cursor: TableData, step: &[u8]) -> TableData {
-    if 2 <= file::byte_at(step, 0) {
+    if file::puts(step) {
         return print_put(put_cursor(cursor, step));
     }
     let times = file::byte_at(step, 1);
     let mut current = cursor;
     let mut k: usize = 0;
     while k < times {
-        let stepped = step_once(layout, area, current, step);
-        put::print_stepped(stepped);
-        current = stepped.cursor;
+        current = print_once(layout, area, current, step);
         k += 1;
     }
     current

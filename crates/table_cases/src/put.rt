@@ -184,10 +184,15 @@ pub fn print_refusal(refusal: Refusal) {
     put(b"\n");
 }
 
+fn print_row(cells: u64) {
+    put_number(b"row ", cells);
+    put(b"\n");
+}
+
 fn print_answer(answer: Answer) {
     match answer {
         Answer::Cell(cell) => print_cell(cell),
-        Answer::Row(_) => put(b"row\n"),
+        Answer::Row(cells) => print_row(cells),
         Answer::Sought => put(b"sought\n"),
         Answer::End => put(b"end\n"),
         Answer::Refused(refusal) => print_refusal(refusal),
@@ -206,4 +211,29 @@ pub fn print_stepped(stepped: Stepped) {
     let cursor = stepped.cursor;
     print_answer(answer);
     print_place(cursor);
+}
+
+// How many cells a row read stored, none where it was refused or at the end.
+pub fn cells_read(stepped: Stepped) -> usize {
+    let answer = stepped.answer;
+    let Answer::Row(cells) = answer else {
+        return 0;
+    };
+    cells as usize
+}
+
+fn is_near(a: usize, b: usize) -> bool {
+    if a < b { b - a <= 2 } else { a - b <= 2 }
+}
+
+// Whether cell k of a list of n is written: of a short list every one; of a long one the first eight, those up to two away from
+// where the row read ended, and the last two.
+pub fn is_shown(k: usize, n: usize, cells: usize) -> bool {
+    n <= 24 || k < 8 || is_near(k, cells) || is_near(k, n)
+}
+
+pub fn print_listed(k: usize, cell: Cell) {
+    put_number(b"list ", k as u64);
+    put(b" ");
+    print_cell(cell);
 }

@@ -98,11 +98,17 @@ run-length l a c (x ∷ xs) = ap suc (run-length l a (cursorStep l a c x .cursor
 
 -- ---- the definitions' answers decide the code's
 
+-- where no list is lent none is left
+abbrev pub NoList : Step → List Cell → Type 0
+NoList readCell list = [] ≡ list
+NoList (readRow lent) list = Unit {0}
+NoList (seek r) list = [] ≡ list
+
 abbrev refusalIn : Check → Answer
 refusalIn C.Passed = A.End
 refusalIn (C.Refused r) = A.Refused r
 
-abbrev answerIn : Reply → Answer
+abbrev pub answerIn : Reply → Answer
 answerIn (gotCell c) = A.Cell c
 answerIn (gotRow k) = A.Row k
 answerIn sought = A.Sought
@@ -118,6 +124,39 @@ answer-back (A.Refused r) = ap refusalIn (check-back (C.Refused r))
 
 pub reply-decides : (x y : Answer) → replyOf x ≡ replyOf y → x ≡ y
 reply-decides x y e = sym (answer-back x) ∙ ap answerIn e ∙ answer-back y
+
+-- and the other way round: an answer of the code's stands for each answer of a step, with nothing where no list is lent
+module _ (rows : ℕ → List Entry) (n : ℕ) (c : TableData) where
+  abbrev Stands : Step → Outcome → Type 0
+  Stands x o = let r = withCursor (c .choice) (c .heap) o in (replyOf (answerIn (r .reply)) ≡ r .reply) × NoList x (r .list)
+
+  cell-stands : (x : Next) → Stands readCell (cellOutcome rows n (stateOf c) x)
+  cell-stands noEntry = (refl, refl)
+  cell-stands (entryAt r p (E.Cell k)) = (refl, refl)
+  cell-stands (entryAt r p (E.OutsideHeap k)) = (refl, refl)
+
+  row-stands : (list : List Cell) (g : Gathered) → Stands (readRow list) (rowOutcome rows n (stateOf c) list g)
+  row-stands list (outside k) = (refl, tt)
+  row-stands list (allCells cs) = by-test (Stands (readRow list)) (leb (length cs) (length list)) (λ t. (refl, tt)) (λ t. (refl, tt))
+
+  step-stands : (x : Step) → Stands x (walkStep rows n (stateOf c) x)
+  unfolding walkStep
+  step-stands readCell = cell-stands (nextEntry rows n (stateOf c))
+  step-stands (readRow list) =
+      by-test (Stands (readRow list)) (ltb (c .row) n) (λ t. row-stands list (rest rows n (stateOf c))) (λ t. (refl, tt))
+  step-stands (seek r) = by-test (Stands (seek r)) (ltb r n) (λ t. (refl, refl)) (λ t. (refl, refl))
+
+pub answer-stands : (l : BinTable) (a : List ℕ) (c : TableData) (x : Step)
+    → (replyOf (answerIn (cursorStep l a c x .reply)) ≡ cursorStep l a c x .reply) × NoList x (cursorStep l a c x .list)
+unfolding cursorStep
+answer-stands l a c x =
+    by-test (λ (o : Result). (replyOf (answerIn (o .reply)) ≡ o .reply) × NoList x (o .list)) (belongs l a c)
+    (λ t. step-stands (rowEntries l a (c .choice) (c .heap)) (l .naxis2) c x) (λ t. (refl, none x))
+  where
+    none : (x : Step) → NoList x (lent x)
+    none readCell = refl
+    none (readRow list) = tt
+    none (seek r) = refl
 
 -- the cursor beside a refusal of opening belongs to no layout and area
 pub no-cursor : (l : BinTable) (a : List ℕ) → belongs l a noCursor ≡ false

@@ -17,7 +17,7 @@ use Rattle.walk.specs.declared.Entry.{Entry}
 use Rattle.walk.specs.Plain.{rowEntries}
 use Rattle.walk.specs.Walk.{Step, start, walk}
 use Rattle.walk.specs.Step.{fits, choiceOk, cursorAt, Selection, choiceOf, Opening, opened, notOpened, openWith, withCursor, run, plainWalk}
-use Rattle.walk.specs.Agree.{Agree, Counted, Demand3}
+use Rattle.walk.specs.Agree.{Agree, Counted, SameSteps}
 use Rattle.walk.proofs.Same.{rows-same}
 use Rattle.walk.proofs.Follows.{start-ok, follows, walk-counts}
 
@@ -52,7 +52,7 @@ counted l a sel heap xs ha hc =
 
 demand3 : (l : BinTable) (a b : List ℕ) (sel : Selection) (heap : Bool) (xs : List Step)
     → fits l a ≡ true → fits l b ≡ true → choiceOk l (choiceOf l sel) ≡ true → Agree l a b (choiceOf l sel) heap
-    → Demand3 l a b sel heap (cursorAt (choiceOf l sel) heap start) xs
+    → SameSteps l a b sel heap (cursorAt (choiceOf l sel) heap start) xs
 demand3 l a b sel heap xs ha hb hc agree =
     let choice = choiceOf l sel in
     let wa = walked l a sel heap xs ha hc in
@@ -66,11 +66,11 @@ demand3 l a b sel heap xs ha hb hc agree =
       counted-b = counted l b sel heap xs hb hc;
     }
 
--- both areas are accepted for one header: their layouts and openings are the same, and every cursor that is opened has the claim of `Demand3`
+-- both areas are accepted for one header: their layouts and openings are the same, and every cursor that is opened has the claim of `SameSteps`
 pub isolation : (h a b : List ℕ) (sel : Selection) (heap : Bool) (xs : List Step) (la lb : BinTable)
     → entry h a ≡ accepted la → entry h b ≡ accepted lb → Agree la a b (choiceOf la sel) heap
     → (la ≡ lb) × ((openWith la a sel heap ≡ openWith lb b sel heap)
-    × ((c : TableData) → openWith la a sel heap ≡ opened c → Demand3 la a b sel heap c xs))
+    × ((c : TableData) → openWith la a sel heap ≡ opened c → SameSteps la a b sel heap c xs))
 isolation h a b sel heap xs la lb ea eb agree =
     let same : la ≡ lb = entry-layout h a la ea ∙ sym (entry-layout h b lb eb) in
     let eb' : entry h b ≡ accepted la = eb ∙ ap accepted (sym same) in
@@ -81,7 +81,7 @@ isolation h a b sel heap xs la lb ea eb agree =
         oa ∙ sym ob ∙ ap (λ (l : BinTable). openWith l b sel heap) same,
         λ c e.
             let q = by-choice (choiceOk la (choiceOf la sel)) (cursorAt (choiceOf la sel) heap start) c (sym oa ∙ e) in
-            subst (λ (o : TableData). Demand3 la a b sel heap o xs) (q .1)
+            subst (λ (o : TableData). SameSteps la a b sel heap o xs) (q .1)
             (demand3 la a b sel heap xs (entry-fits h a la ea) (entry-fits h b la eb') (q .0) agree),
       ),
     )

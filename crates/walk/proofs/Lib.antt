@@ -12,3 +12,4 @@ pub mod Steps
 pub mod Answers
 pub mod InOrder
 pub mod Examples
+pub mod Together

@@ -40,7 +40,7 @@ Counted k (x ∷ xs) (o ∷ os) = (o .cursor .count ≡ min stop (k + handed x (
 
 -- the steps xs from the cursor c, opened with this selection and heap setting: on a and on b each is what the plain walk gives there, the two are the
 -- same, and the counts are right on both
-pub record Demand3 (l : BinTable) (a b : List ℕ) (sel : Selection) (heap : Bool) (c : TableData) (xs : List Step) : Type 0 where
+pub record SameSteps (l : BinTable) (a b : List ℕ) (sel : Selection) (heap : Bool) (c : TableData) (xs : List Step) : Type 0 where
   pub walked-a : run l a c xs ≡ map (withCursor (choiceOf l sel) heap) (plainWalk l a (choiceOf l sel) heap xs)
   pub walked-b : run l b c xs ≡ map (withCursor (choiceOf l sel) heap) (plainWalk l b (choiceOf l sel) heap xs)
   pub same : run l a c xs ≡ run l b c xs

@@ -124,3 +124,7 @@ replyOf (A.Refused r) = refused (numberOf r) (placeOf r)
 -- with what the list lent holds afterwards, nothing where none is lent
 abbrev pub resultOf : Stepped → List Cell → Result
 resultOf s list = record { reply = replyOf (s .answer); cursor = s .cursor; list = list }
+
+-- what a call over a lent cursor left and returned
+abbrev pub stepped : TableData → Answer → Stepped
+stepped c r = record { cursor = c; answer = r }

@@ -1,5 +1,5 @@
 // The cursor over a table, its steps and their answers, as plain values. What a step does is in specs/, and the theorem about
-// lists of steps in proofs/Isolation; the crate `table` has the code.
+// lists of steps in proofs/Isolation; the crates `table` and `row` have the code, and row/proofs/Runs the theorem about it.
 use cell::Cell;
 use layout::Check;
 use layout::Refusal;

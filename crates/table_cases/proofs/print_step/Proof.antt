@@ -11,8 +11,8 @@ Inv-loop layout area step times current₀ k₀ current k = k ≤ times
 abbrev μ-loop : tie.MeasureT-loop
 μ-loop layout area step times current₀ k₀ current k = times - k
 
-byte-at-requires : tie.Need-byte-at-requires Inv-loop μ-loop
-byte-at-requires c κs = search needs
+puts-requires : tie.Need-puts-requires Inv-loop μ-loop
+puts-requires c κs = search needs
 
 put-cursor-requires : tie.Need-put-cursor-requires Inv-loop μ-loop
 put-cursor-requires c κs = search needs
@@ -23,17 +23,14 @@ print-put-requires c κs = search needs
 returns : tie.Need-returns Inv-loop μ-loop
 returns c = search needs
 
-byte-at-requires-2 : tie.Need-byte-at-requires-2 Inv-loop μ-loop
-byte-at-requires-2 c κs = search needs
+byte-at-requires : tie.Need-byte-at-requires Inv-loop μ-loop
+byte-at-requires c κs = search needs
 
 loop-holds : tie.Need-loop-holds Inv-loop μ-loop
 loop-holds c = search needs
 
-step-once-requires : tie.Need-step-once-requires Inv-loop μ-loop
-step-once-requires c κs = search needs
-
-print-stepped-requires : tie.Need-print-stepped-requires Inv-loop μ-loop
-print-stepped-requires c κs = search needs
+print-once-requires : tie.Need-print-once-requires Inv-loop μ-loop
+print-once-requires c κs = search needs
 
 add-k : tie.Need-add-k Inv-loop μ-loop
 add-k c = search needs
@@ -53,14 +50,13 @@ print-step-spec =
     (tie.spec
     Inv-loop
     μ-loop
-    byte-at-requires
+    puts-requires
     put-cursor-requires
     print-put-requires
     returns
-    byte-at-requires-2
+    byte-at-requires
     loop-holds
-    step-once-requires
-    print-stepped-requires
+    print-once-requires
     add-k
     loop-less
     loop-again

@@ -1,0 +1,10 @@
+pub mod Again
+pub mod Ensured
+pub mod Fields
+pub mod Left
+pub mod Lengths
+pub mod Lent
+pub mod Owned
+pub mod Runs
+pub mod Stored
+pub mod Values
