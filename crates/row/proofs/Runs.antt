@@ -3,7 +3,7 @@
 -- Assumes nothing.
 use Prim.Native.Nat.{ℕ}
 use mathlib.Core.Path.{_≡_, refl, sym, ap, ap₂, subst, _∙_}
-use mathlib.Core.Bool.{Bool, true}
+use mathlib.Core.Bool.{Bool, true, cond}
 use mathlib.Core.List.{List, [], _∷_, map}
 use lib.IntN.{pos}
 use Rattle.card.specs.Text.{bytes}
@@ -28,7 +28,7 @@ use Rattle.walk.specs.declared.Stepped.{Stepped}
 use Rattle.walk.specs.Plain.{fieldOf, cellOf, cells, entriesOf, chosen, columnEntries, columnsEntries, rowEntries}
 use Rattle.walk.specs.Walk.{Step, readCell, readRow, seek, Reply, gotCell, gotRow, sought, refused, gather, placeOk, walkStep}
 use Rattle.walk.specs.Walk as W
-use Rattle.walk.specs.Step.{fits, choiceOk, belongs, cursorAt, Selection, choiceOf, Opening, opened, openingOf, Result, withCursor, cursorStep, run, plainWalk, resultOf, stepped}
+use Rattle.walk.specs.Step.{fits, choiceOk, belongs, cursorAt, Selection, choiceOf, Opening, opened, notOpened, openWith, openingOf, Result, withCursor, cursorStep, run, plainWalk, resultOf, stepped}
 use Rattle.walk.specs.Agree.{Agree, Counted, SameSteps}
 use Rattle.walk.proofs.Answers.{answerIn, answer-stands}
 use Rattle.walk.proofs.Isolation.{isolation}
@@ -136,6 +136,22 @@ runs-isolated h a b sel heap pa pb oa ob check-a layout-a passed-a check-b layou
           same-runs la lb a b sel heap (oa .cursor) (ob .cursor) xs os os′ layouts (ap (λ (x : Opening). x .cursor) openings)
           (isolation h a b sel heap xs la lb ea eb agree .1 .1 (oa .cursor) (sym opened-a ∙ passed-opens oa passed));
     }
+
+-- opening looks at a selection through its choice alone, so two selections of the same columns may be taken: all columns and a list of all, for one
+choice-opens : (l : BinTable) (a : List ℕ) (sel sel′ : Selection) (heap : Bool) → choiceOf l sel′ ≡ choiceOf l sel → openWith l a sel′ heap ≡ openWith l a sel heap
+unfolding openWith
+choice-opens l a sel sel′ heap e =
+    ap (λ (k : ℕ). cond (fits l a) (cond (choiceOk l k) (opened (cursorAt k heap W.start)) (notOpened 11)) (notOpened 10)) e
+
+pub choices-isolated : (h a b : List ℕ) (sel sel′ : Selection) (heap : Bool) (pa pb : Parsed) (oa ob : Opened)
+    → CheckEnsures h a pa → LayoutEnsures h a pa → pa .check ≡ Passed
+    → CheckEnsures h b pb → LayoutEnsures h b pb → pb .check ≡ Passed
+    → OpenEnsures (pa .layout) a sel heap oa → OpenEnsures (pb .layout) b sel′ heap ob → choiceOf (pb .layout) sel′ ≡ choiceOf (pb .layout) sel
+    → Agree (pa .layout) a b (choiceOf (pa .layout) sel) heap
+    → Isolated (pa .layout) (pb .layout) a b sel heap oa ob
+choices-isolated h a b sel sel′ heap pa pb oa ob check-a layout-a passed-a check-b layout-b passed-b opened-a opened-b e agree =
+    runs-isolated h a b sel heap pa pb oa ob check-a layout-a passed-a check-b layout-b passed-b opened-a
+    (opened-b ∙ choice-opens (pb .layout) b sel sel′ heap e) agree
 
 -- ---- a run of all six calls, on the request's example: a cell, the rest of its row, a row that the table lacks, a seek back, a list that is too
 -- short, and the first cell again
