@@ -50,10 +50,10 @@ counted l a sel heap xs ha hc =
     subst (Counted 0 xs) (sym (walked l a sel heap xs ha hc))
     (walk-counts rows (l .naxis2) (choiceOf l sel) heap 0 start xs (start-ok rows (l .naxis2)) refl)
 
-demand3 : (l : BinTable) (a b : List ℕ) (sel : Selection) (heap : Bool) (xs : List Step)
+same-steps : (l : BinTable) (a b : List ℕ) (sel : Selection) (heap : Bool) (xs : List Step)
     → fits l a ≡ true → fits l b ≡ true → choiceOk l (choiceOf l sel) ≡ true → Agree l a b (choiceOf l sel) heap
     → SameSteps l a b sel heap (cursorAt (choiceOf l sel) heap start) xs
-demand3 l a b sel heap xs ha hb hc agree =
+same-steps l a b sel heap xs ha hb hc agree =
     let choice = choiceOf l sel in
     let wa = walked l a sel heap xs ha hc in
     let wb = walked l b sel heap xs hb hc in
@@ -82,6 +82,6 @@ isolation h a b sel heap xs la lb ea eb agree =
         λ c e.
             let q = by-choice (choiceOk la (choiceOf la sel)) (cursorAt (choiceOf la sel) heap start) c (sym oa ∙ e) in
             subst (λ (o : TableData). SameSteps la a b sel heap o xs) (q .1)
-            (demand3 la a b sel heap xs (entry-fits h a la ea) (entry-fits h b la eb') (q .0) agree),
+            (same-steps la a b sel heap xs (entry-fits h a la ea) (entry-fits h b la eb') (q .0) agree),
       ),
     )
