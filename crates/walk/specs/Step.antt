@@ -1,7 +1,7 @@
 -- The cursor's calls, as their contracts state them, for any layout, data area and cursor (FORMAT.md, section 14). What does not belong
 -- together gets a 10. Any other cursor does what the plain walk does from the choice, heap setting, place and count that it holds.
 -- Assumes nothing.
-use Prim.Native.Nat.{ℕ, zero, suc, _+_, _*_, _^_}
+use Prim.Native.Nat.{ℕ, zero, suc, _+_, _-_, _*_, _^_}
 use mathlib.Core.Bool.{Bool, true, false, cond, _&&_, _||_}
 use mathlib.Core.List.{List, [], _∷_}
 use lib.ListN.{length}
@@ -13,12 +13,13 @@ use Rattle.layout.specs.Layout.{dataSize, layoutOk}
 use Rattle.layout.specs.Refusal.{numberOf, placeOf, outcomeOf}
 use Rattle.cell.specs.declared.Cell.{Cell}
 use Rattle.walk.specs.declared.TableData.{TableData}
+use Rattle.walk.specs.declared.Entry.{Entry}
 use Rattle.walk.specs.declared.Answer.{Answer}
 use Rattle.walk.specs.declared.Answer.the-variants as A
 use Rattle.walk.specs.declared.Opened.{Opened}
 use Rattle.walk.specs.declared.Stepped.{Stepped}
 use Rattle.walk.specs.Plain.{rowEntries}
-use Rattle.walk.specs.Walk.{Step, lent, State, start, Outcome, Reply, gotCell, gotRow, sought, atEnd, refused, placeOk, walkStep, walk}
+use Rattle.walk.specs.Walk.{Step, lent, State, start, Outcome, Reply, gotCell, gotRow, sought, atEnd, refused, placeOk, entriesLeft, walkStep, walk}
 
 -- ---- what belongs together
 
@@ -41,6 +42,10 @@ stateOf c = record { row = c .row; passed = c .passed; count = c .count }
 
 abbrev pub cursorAt : ℕ → Bool → State → TableData
 cursorAt choice heap s = record { choice = choice; heap = heap; row = s .row; passed = s .passed; count = s .count }
+
+-- the entries that are left from a cursor on, its own row's and those of all later rows
+abbrev pub cursorLeft : BinTable → List ℕ → TableData → List Entry
+cursorLeft l a c = entriesLeft (rowEntries l a (c .choice) (c .heap)) (l .naxis2) (l .naxis2 - c .row) (c .row) (c .passed)
 
 -- the cursor beside a refusal of opening
 abbrev pub noCursor : TableData

@@ -146,6 +146,16 @@ module _ (rows : ℕ → List Entry) (n : ℕ) where
       cond (ltb (s .row) n) (rowOutcome s list (rest s)) (record { reply = atEnd; list = list; state = s })
   walkStep s (seek r) = seekOutcome n s r
 
+  -- the entries of k rows from row r on, in their order
+  unfoldable pub entriesFrom : ℕ → ℕ → List Entry
+  entriesFrom r zero = []
+  entriesFrom r (suc k) = rows r ++ entriesFrom (suc r) k
+
+  -- those that are left of k rows from the place r, p on
+  abbrev pub entriesLeft : ℕ → ℕ → ℕ → List Entry
+  entriesLeft zero r p = []
+  entriesLeft (suc k) r p = drop p (rows r) ++ entriesFrom (suc r) k
+
   -- the outcome of each step
   unfoldable pub walk : State → List Step → List Outcome
   walk s [] = []

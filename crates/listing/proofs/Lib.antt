@@ -1,0 +1,5 @@
+pub mod Lengths
+pub mod Turns
+pub mod Signs
+pub mod Chain
+pub mod Short

@@ -1,0 +1,179 @@
+-- What a line can say: the numbers in it are few, and which lines choose indexes.
+-- Assumes nothing.
+use mathlib.Core.Path.{_≡_, refl, sym, ap, subst, _∙_}
+use mathlib.Core.List.{List, [], _∷_, _++_}
+use mathlib.Core.Bool.{true, false}
+use Prim.Native.Nat.{ℕ, suc, _-_, _≤_, _<_}
+use native.Mathlib.Omega.{arith}
+use lib.ListN.{length, take, drop, length-take, length-drop, take-append-drop}
+use lib.Dec.{eqb, leb}
+use borrow.Author.Tests.{leb-true, le-leb, lt-leb}
+use Rattle.card.specs.Text.{bytes, same, front}
+use Rattle.card.proofs.Cases.{by-test, either}
+use Rattle.card.proofs.Parts.{part-from}
+use Rattle.card.proofs.Same.{same-true}
+use Rattle.keyword.specs.declared.Found.{Found}
+use Rattle.keyword.specs.declared.Found.the-variants.{At, Nothing}
+use Rattle.steps.specs.declared.Command.{Command}
+use Rattle.steps.specs.declared.Command.the-variants as C
+use Rattle.steps.specs.Split.{prepend, parts}
+use Rattle.steps.specs.Numbers.{number, Numbers, allOf, notAll, withFirst, numbers}
+use Rattle.steps.specs.Line.{Says, row, rowBy, seekBy, chooseBy, is, begins, says, commandOf, indexesOf, listedIn}
+
+-- the bound of a row's cells
+abbrev RowOk : Command → Type 0
+RowOk C.ChooseAll = Unit {0}
+RowOk C.Choose = Unit {0}
+RowOk (C.Heap on) = Unit {0}
+RowOk C.Cell = Unit {0}
+RowOk (C.Row n) = n ≤ 512
+RowOk (C.Seek r) = Unit {0}
+RowOk C.Bad = Unit {0}
+
+row-by : (f : Found) → RowOk (commandOf (rowBy f))
+row-by (At n) = by-test (λ (x : Says). RowOk (commandOf x)) (leb n 512) (λ t. leb-true n 512 t) (λ t. tt)
+row-by Nothing = tt
+
+seek-by : (f : Found) → RowOk (commandOf (seekBy f))
+seek-by (At n) = tt
+seek-by Nothing = tt
+
+choose-by : (r : Numbers) → RowOk (commandOf (chooseBy r))
+choose-by (allOf ns) = tt
+choose-by notAll = tt
+
+row-ok : (s : List ℕ) → RowOk (commandOf (says s))
+unfolding says
+row-ok s =
+    let P : Says → Type 0 = λ (x : Says). RowOk (commandOf x) in
+    by-test P (is "cell" s) (λ _. tt)
+    (λ _. by-test P (begins "row " s) (λ _. row-by (number (drop 4 s)))
+    (λ _. by-test P (begins "seek " s) (λ _. seek-by (number (drop 5 s)))
+    (λ _. by-test P (is "choose all" s) (λ _. tt)
+    (λ _. by-test P (begins "choose " s) (λ _. choose-by (numbers (parts (drop 7 s))))
+    (λ _. by-test P (is "heap on" s) (λ _. tt)
+    (λ _. by-test P (is "heap off" s) (λ _. tt) (λ _. tt)))))))
+
+pub row-few : (s : List ℕ) (n : ℕ) → commandOf (says s) ≡ C.Row n → n ≤ 512
+row-few s n e = subst RowOk e (row-ok s)
+
+pub row-says-few : (s : List ℕ) (n : ℕ) → says s ≡ row n → n ≤ 512
+row-says-few s n e = row-few s n (ap commandOf e)
+
+-- a line has at most one part more than bytes, and each number is a part
+prepend-few : (b : ℕ) (ps : List (List ℕ)) → length (prepend b ps) ≤ suc (length ps)
+prepend-few b [] = omega arith
+prepend-few b (p ∷ ps) = omega arith
+
+parts-few : (s : List ℕ) → length (parts s) ≤ suc (length s)
+unfolding parts
+parts-few [] = omega arith
+parts-few (b ∷ bs) =
+    by-test (λ (ps : List (List ℕ)). length ps ≤ suc (suc (length bs))) (eqb b 32) (λ _. omega (arith, parts-few bs))
+    (λ _. omega (arith, parts-few bs, prepend-few b (parts bs)))
+
+first-few : (f : Found) (r : Numbers) → length (indexesOf (chooseBy (withFirst f r))) ≤ suc (length (indexesOf (chooseBy r)))
+first-few (At n) (allOf ns) = omega arith
+first-few (At n) notAll = omega arith
+first-few Nothing r = omega arith
+
+numbers-few : (ps : List (List ℕ)) → length (indexesOf (chooseBy (numbers ps))) ≤ length ps
+unfolding numbers
+numbers-few [] = omega arith
+numbers-few (p ∷ ps) = omega (arith, numbers-few ps, first-few (number p) (numbers ps))
+
+module _ (s : List ℕ) where
+  -- a word that a line begins with lies within it
+  word-inside : (w : List ℕ) → same (take (length w) s) w ≡ true → length w ≤ length s
+  word-inside w e = let h = simp length-take at (ap length (same-true (take (length w) s) w e)) in omega arith
+
+  pub row-inside : begins "row " s ≡ true → 4 ≤ length s
+  unfolding bytes
+  row-inside e = word-inside (bytes "row ") e
+
+  pub seek-inside : begins "seek " s ≡ true → 5 ≤ length s
+  unfolding bytes
+  seek-inside e = word-inside (bytes "seek ") e
+
+  pub choose-inside : begins "choose " s ≡ true → 7 ≤ length s
+  unfolding bytes
+  choose-inside e = word-inside (bytes "choose ") e
+
+  rows-few : (f : Found) → length (indexesOf (rowBy f)) ≤ length s
+  rows-few (At n) = by-test (λ (x : Says). length (indexesOf x) ≤ length s) (leb n 512) (λ _. omega arith) (λ _. omega arith)
+  rows-few Nothing = omega arith
+
+  seeks-few : (f : Found) → length (indexesOf (seekBy f)) ≤ length s
+  seeks-few (At n) = omega arith
+  seeks-few Nothing = omega arith
+
+  chosen-few : begins "choose " s ≡ true → length (indexesOf (chooseBy (numbers (parts (drop 7 s))))) ≤ length s
+  chosen-few e =
+      omega (arith, choose-inside e, numbers-few (parts (drop 7 s)), parts-few (drop 7 s), length-drop 7 s)
+
+  pub indexes-few : length (indexesOf (says s)) ≤ length s
+  unfolding says
+  indexes-few =
+      let P : Says → Type 0 = λ (x : Says). length (indexesOf x) ≤ length s in
+      by-test P (is "cell" s) (λ _. omega arith)
+      (λ _. by-test P (begins "row " s) (λ _. rows-few (number (drop 4 s)))
+      (λ _. by-test P (begins "seek " s) (λ _. seeks-few (number (drop 5 s)))
+      (λ _. by-test P (is "choose all" s) (λ _. omega arith)
+      (λ _. by-test P (begins "choose " s) chosen-few
+      (λ _. by-test P (is "heap on" s) (λ _. omega arith)
+      (λ _. by-test P (is "heap off" s) (λ _. omega arith) (λ _. omega arith)))))))
+
+-- the indexes of a line that begins as a choice
+chosen-all : (t : List ℕ) → same t (bytes "all") ≡ true → indexesOf (chooseBy (numbers (parts t))) ≡ []
+unfolding bytes numbers number parts front
+chosen-all t e = rw (same-true t (bytes "all") e)
+
+chosen-is : (t : List ℕ) → indexesOf (says (bytes "choose " ++ t)) ≡ indexesOf (chooseBy (numbers (parts t)))
+unfolding says bytes same
+chosen-is t = either (same t (bytes "all")) (λ e. rw (e, chosen-all t e)) (λ e. rw e)
+
+module _ (s : List ℕ) where
+  pub indexes-choose : begins "choose " s ≡ true → indexesOf (says s) ≡ indexesOf (chooseBy (numbers (parts (drop 7 s))))
+  unfolding bytes
+  indexes-choose e =
+      ap (λ (l : List ℕ). indexesOf (says l))
+      (sym (take-append-drop 7 s) ∙ ap (λ (l : List ℕ). l ++ drop 7 s) (same-true (take 7 s) (bytes "choose ") e))
+      ∙ chosen-is (drop 7 s)
+
+  -- the same of the part of the line that the code takes
+  pub indexes-part : begins "choose " s ≡ true → indexesOf (says s) ≡ indexesOf (chooseBy (numbers (parts (take (length s - 7) (drop 7 s)))))
+  indexes-part e = rw (part-from s 7) (indexes-choose e)
+
+  rows-none : (f : Found) → indexesOf (rowBy f) ≡ []
+  rows-none (At n) = by-test (λ (x : Says). indexesOf x ≡ []) (leb n 512) (λ _. refl) (λ _. refl)
+  rows-none Nothing = refl
+
+  seeks-none : (f : Found) → indexesOf (seekBy f) ≡ []
+  seeks-none (At n) = refl
+  seeks-none Nothing = refl
+
+  pub indexes-other : begins "choose " s ≡ false → indexesOf (says s) ≡ []
+  unfolding says
+  indexes-other e =
+      let P : Says → Type 0 = λ (x : Says). indexesOf x ≡ [] in
+      rw e
+      (by-test P (is "cell" s) (λ _. refl)
+      (λ _. by-test P (begins "row " s) (λ _. rows-none (number (drop 4 s)))
+      (λ _. by-test P (begins "seek " s) (λ _. seeks-none (number (drop 5 s)))
+      (λ _. by-test P (is "choose all" s) (λ _. refl)
+      (λ _. by-test P (is "heap on" s) (λ _. refl)
+      (λ _. by-test P (is "heap off" s) (λ _. refl) (λ _. refl)))))))
+
+  -- so a line with indexes begins as a choice
+  pub begun : (length (indexesOf (says s)) ≡ 0 → ⊥) → begins "choose " s ≡ true
+  begun h = either (begins "choose " s) (λ e. e) (λ e. absurd (h (ap length (indexes-other e))))
+
+-- the list stays as it was: no indexes, or no room for them
+pub listed-none : (xs ns : List ℕ) → length ns ≡ 0 → listedIn xs ns ≡ xs
+unfolding listedIn
+listed-none xs [] e = rw (le-leb 0 (length xs) (omega arith))
+listed-none xs (n ∷ ns) e = absurd (omega arith)
+
+pub listed-full : (xs ns : List ℕ) → length xs < length ns → listedIn xs ns ≡ xs
+unfolding listedIn
+listed-full xs ns h = rw (lt-leb (length ns) (length xs) h)
