@@ -1,0 +1,5 @@
+mod Entries
+mod Lines
+mod Filling
+mod Parted
+pub mod Whole

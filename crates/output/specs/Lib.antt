@@ -1,0 +1,5 @@
+pub mod Cells
+pub mod Replay
+pub mod State
+pub mod Next
+pub mod Page
