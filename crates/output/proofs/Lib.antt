@@ -1,5 +1,5 @@
 mod Entries
 mod Lines
 mod Filling
-mod Parted
+pub mod Parted
 pub mod Whole

@@ -7,8 +7,8 @@ use mathlib.Core.List.{List, [], _∷_, _++_, map}
 use native.Mathlib.Numerals.{add-one}
 use native.Mathlib.Omega.{arith}
 use lib.Dec.{eqb, ltb}
-use lib.ListN.{length, take, drop, getD, replicate, length-drop, length-replicate}
-use lib.Seq.{take-nil, take-all, drop-cons}
+use lib.ListN.{length, take, drop, getD, replicate, length-replicate}
+use lib.Seq.{take-nil, drop-cons}
 use borrow.Author.Tests.{ltb-true, ltb-false, eqb-true}
 use Rattle.card.proofs.Cases.{either, by-test}
 use Rattle.layout.specs.declared.BinTable.{BinTable}
@@ -27,7 +27,7 @@ use Rattle.steps.specs.declared.Command.the-variants as C
 use Rattle.steps.specs.Split.{before, linesOf, lineFeeds}
 use Rattle.steps.specs.Line.{says, commandOf}
 use Rattle.steps.specs.Line as S
-use Rattle.steps.proofs.Lines.{line-inside, lines-next, lines-none, feeds-next}
+use Rattle.steps.proofs.Lines.{lines-next, lines-none, feeds-next}
 use Rattle.output.specs.declared.State.the-variants as T
 use Rattle.output.specs.Replay.{blank, Asked, step, none, asked, rowOf, answerLines, resultLines, lineBy, stepLines}
 use Rattle.output.specs.State.{stepsFrom, listedFrom, listedLines, left, nextLines}
@@ -40,10 +40,6 @@ pub feeds-few : (s : List ℕ) → lineFeeds s ≤ length s
 unfolding lineFeeds
 feeds-few [] = omega arith
 feeds-few (b ∷ bs) = by-test (λ (n : ℕ). n ≤ suc (length bs)) (eqb b 10) (λ e. omega (arith, feeds-few bs)) (λ e. omega (arith, feeds-few bs))
-
--- a text from a place on, as the code cuts it out
-pub rest-is : (s : List ℕ) (at : ℕ) → take (length s - at) (drop at s) ≡ drop at s
-rest-is s at = take-all (length s - at) (drop at s) (rw (length-drop at s) (omega arith))
 
 -- the step that a command is
 abbrev pub askedOf : Command → Asked

@@ -7,6 +7,7 @@ use native.Mathlib.Omega.{arith}
 use lib.ListN.{length, take, drop}
 use lib.Seq.{length-take-le}
 use Rattle.card.proofs.Cases.{by-test}
+use Rattle.card.proofs.Parts.{part-from}
 use Rattle.header.specs.Records.{records, hasEnd, headerLen}
 use Rattle.layout.specs.declared.BinTable.{BinTable}
 use Rattle.layout.specs.declared.Check.{Check}
@@ -17,7 +18,6 @@ use Rattle.output.specs.declared.State.{State}
 use Rattle.output.specs.declared.State.the-variants as S
 use Rattle.output.specs.Cells.{headerOf, dataOf, cellsLines}
 use Rattle.output.specs.State.{fileLeft}
-use Rattle.output.proofs.Lines.{rest-is}
 
 -- the header lies within the file
 pub header-inside : (f : List ℕ) → headerLen f ≤ length f
@@ -30,7 +30,7 @@ header-length f = sym (length-take-le (headerLen f) f (header-inside f))
 -- what holds of the two parts as the code cuts them out
 pub of-parts : (P : List ℕ → List ℕ → Type 0) (f : List ℕ) (n : ℕ) → n ≡ headerLen f → P (take n f) (take (length f - n) (drop n f)) → P (headerOf f) (dataOf f)
 of-parts P f n e p =
-    subst (λ (a : List ℕ). P (headerOf f) a) (rest-is f (headerLen f)) (subst (λ (m : ℕ). P (take m f) (take (length f - m) (drop m f))) e p)
+    subst (λ (a : List ℕ). P (headerOf f) a) (part-from f (headerLen f)) (subst (λ (m : ℕ). P (take m f) (take (length f - m) (drop m f))) e p)
 
 -- the state in which `cells` starts
 abbrev pub startOf : Check → State

@@ -3,6 +3,7 @@
 use Prim.Native.Nat.{ℕ, suc}
 use mathlib.Core.Bool.{Bool, not, cond}
 use mathlib.Core.List.{List, [], _∷_}
+use lib.ListN.{take, drop}
 use lib.Dec.{eqb}
 use Rattle.card.specs.Text.{front}
 
@@ -24,6 +25,10 @@ parts (b ∷ bs) = cond (eqb b 32) ([] ∷ parts bs) (prepend b (parts bs))
 -- how many bytes stand before the first byte e, all of them where there is none
 abbrev pub before : ℕ → List ℕ → ℕ
 before e s = front (λ (b : ℕ). not (eqb b e)) s
+
+-- the line that begins at a place, without its line feed
+abbrev pub lineAt : List ℕ → ℕ → List ℕ
+lineAt s at = take (before 10 (drop at s)) (drop at s)
 
 -- how many line feeds there are
 unfoldable pub lineFeeds : List ℕ → ℕ

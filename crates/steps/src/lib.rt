@@ -5,7 +5,7 @@ mod words;
 ghost use mathlib.Core.Path.{_≡_};
 ghost use mathlib.Core.Bool.{true, false, cond};
 ghost use lib.ListN.{length, drop};
-ghost use Rattle.steps.specs.Split.{before, lineFeeds, parts};
+ghost use Rattle.steps.specs.Split.{before, lineAt, lineFeeds, parts};
 ghost use Rattle.steps.specs.Numbers.{number, numbers};
 ghost use Rattle.steps.specs.Line.{says, rowBy, seekBy, chooseAll, chooseBy, heap, bad, is, begins, commandOf, indexesOf, listedIn};
 use keyword::Found;
@@ -26,6 +26,17 @@ pub fn line_len(text: &[u8]) -> usize
     ensures { λ r. ⌜ r ≡ before 10 (now (text .entry)) ⌝ }
 {
     words::bytes_before(text, 10)
+}
+
+// The line that begins at a place of a text, without its line feed; empty where the text has no such place.
+pub fn line_at(text: &[u8], at: usize) -> &[u8]
+    ensures { λ r. ⌜ now r ≡ lineAt (now (text .entry)) at ⌝ }
+{
+    if text.len() <= at {
+        return &text[0..0];
+    }
+    let end = at + line_len(&text[at..]);
+    &text[at..end]
 }
 
 // How many line feeds a text has.

@@ -2,7 +2,7 @@
 -- Assumes nothing.
 use borrow.Author.Needs.{needs}
 use Rattle.header.specs.Records.{headerLen}
-use Rattle.output.proofs.Lines.{rest-is}
+use Rattle.card.proofs.Parts.{part-from}
 use Rattle.output.proofs.Parted.{header-inside, header-length}
 use Rattle.output.proofs.parse_file.Statement.{statement}
 use Rattle.output.proofs.parse_file.Tie as tie
@@ -29,7 +29,7 @@ returns : tie.Need-returns
 returns c =
     let f = c .before .before .before .before .before .args .file .now in
     let n = c .before .before .before .header-len .ensures in
-    rw (n, rest-is f (headerLen f)) at (c .parse .ensures)
+    rw (n, part-from f (headerLen f)) at (c .parse .ensures)
 
 pub parse-file-spec : {M : Type 1} → statement M
 parse-file-spec =

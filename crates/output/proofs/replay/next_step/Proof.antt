@@ -7,6 +7,7 @@ use native.Mathlib.Omega.{arith}
 use lib.ListN.{length, take, drop, length-drop}
 use lib.Seq.{length-take-le}
 use borrow.Author.Needs.{needs}
+use Rattle.card.proofs.Parts.{part-from}
 use Rattle.walk.specs.Walk.{readCell, seek}
 use Rattle.steps.specs.Split.{before, lineFeeds}
 use Rattle.steps.specs.Line.{says, commandOf}
@@ -14,14 +15,14 @@ use Rattle.steps.proofs.Lines.{line-inside}
 use Rattle.steps.proofs.Says.{row-few}
 use Rattle.output.specs.Replay.{lineBy}
 use Rattle.output.specs.State.{stepsFrom}
-use Rattle.output.proofs.Lines.{rest-is, askedOf, steps-command, steps-none, answer-next, row-next}
+use Rattle.output.proofs.Lines.{askedOf, steps-command, steps-none, answer-next, row-next}
 use Rattle.output.proofs.replay.next_step.Statement.{statement}
 use Rattle.output.proofs.replay.next_step.Tie as tie
 
 -- the line's length, and that the line lies within the steps
 line-length : (p : tie.After-line-len) → let s = p .before .before .before .before .before .before in
     p .line-len .result ≡ before 10 (drop (s .args .at) (s .args .steps .now))
-line-length p = let s = p .before .before .before .before .before .before in rw (rest-is (s .args .steps .now) (s .args .at)) at (p .line-len .ensures)
+line-length p = let s = p .before .before .before .before .before .before in rw (part-from (s .args .steps .now) (s .args .at)) at (p .line-len .ensures)
 
 line-fits : (p : tie.After-line-len) → let s = p .before .before .before .before .before .before in
     s .args .at + p .line-len .result ≤ length (s .args .steps .now)
@@ -38,7 +39,7 @@ went p =
     let s = p .before .before .before .before .before .before .before .before in
     let steps = s .args .steps .now in
     steps-command (s .args .layout) (s .args .area .now) steps (s .args .at) (s .args .cursor) (take (length steps - s .args .at) (drop (s .args .at) steps))
-    (p .before .before .line-len .result) (p .parse-command .result) (p .before .before .before .before .if1 .left) (rest-is steps (s .args .at))
+    (p .before .before .line-len .result) (p .parse-command .result) (p .before .before .before .before .if1 .left) (part-from steps (s .args .at))
     (p .before .before .line-len .ensures) (p .parse-command .ensures)
 
 returns : tie.Need-returns
@@ -61,7 +62,7 @@ line-len-requires c κs = search needs
 slice-aggregate-parse-command : tie.Need-slice-aggregate-parse-command
 slice-aggregate-parse-command c =
     let s = c .before .before .before .before .before .before .before in
-    rw (rest-is (s .args .steps .now) (s .args .at))
+    rw (part-from (s .args .steps .now) (s .args .at))
     (sym (length-take-le (c .before .line-len .result) (drop (s .args .at) (s .args .steps .now)) (rw (length-drop (s .args .at) (s .args .steps .now)) (omega (arith, line-fits (c .before))))))
 
 parse-command-requires : tie.Need-parse-command-requires

@@ -1,0 +1,41 @@
+-- `print_pages` ends: the measure is the number of lines left, and one more while the last page was not empty.
+-- Assumes nothing.
+use Prim.Native.Nat.{_+_, min}
+use lib.ListN.{length}
+use borrow.Author.Needs.{needs}
+use Rattle.output.specs.State.{fileLeft}
+use Rattle.output.proofs.Whole.{page-falls}
+use Rattle.cells_example.proofs.print_pages.Statement.{statement}
+use Rattle.cells_example.proofs.print_pages.Tie as tie
+
+abbrev Inv-loop : tie.InvT-loop
+Inv-loop file layout steps current₀ len₀ current len = Unit {0}
+
+abbrev μ-loop : tie.MeasureT-loop
+μ-loop file layout steps current₀ len₀ current len = length (fileLeft file layout steps current) + min len 1
+
+loop-holds : tie.Need-loop-holds Inv-loop μ-loop
+loop-holds c = tt
+
+print-page-requires : tie.Need-print-page-requires Inv-loop μ-loop
+print-page-requires c κs = search needs
+
+loop-less : tie.Need-loop-less Inv-loop μ-loop
+loop-less c =
+    let s = c .before .before .before .before .before in
+    let p = c .before .before in
+    let f = s .args .file .now in
+    page-falls 131072 (fileLeft f (s .args .layout) (s .args .steps .now) (p .loop .current))
+    (fileLeft f (s .args .layout) (s .args .steps .now) (c .print-page .result .state)) (p .loop .len) (c .print-page .result .len)
+    (c .before .loop-test .taken) (c .print-page .ensures .1) (c .print-page .ensures .0)
+
+loop-again : tie.Need-loop-again Inv-loop μ-loop
+loop-again c = tt
+
+returns : tie.Need-returns Inv-loop μ-loop
+returns c = tt
+
+pub print-pages-spec : {M : Type 1} → statement M
+print-pages-spec =
+    tie.close
+    (tie.spec Inv-loop μ-loop loop-holds print-page-requires loop-less loop-again returns)

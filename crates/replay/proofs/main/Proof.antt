@@ -1,0 +1,66 @@
+-- `main` meets what its callees ask: the steps are cut to the bytes that are looked at.
+-- Assumes nothing.
+use lib.ListN.{take}
+use Rattle.replay.proofs.Before.{first-few}
+use borrow.Author.Needs.{needs}
+use Rattle.replay.proofs.main.Statement.{statement}
+use Rattle.replay.proofs.main.Tie as tie
+
+slice-aggregate-read-file : tie.Need-slice-aggregate-read-file
+slice-aggregate-read-file c = search needs
+
+slice-aggregate-read-file-2 : tie.Need-slice-aggregate-read-file-2
+slice-aggregate-read-file-2 c = search needs
+
+read-file-requires : tie.Need-read-file-requires
+read-file-requires c κs = search needs
+
+array-share-prefix-buffer : tie.Need-array-share-prefix-buffer
+array-share-prefix-buffer c = search needs
+
+slice-aggregate-first-bytes : tie.Need-slice-aggregate-first-bytes
+slice-aggregate-first-bytes c = search needs
+
+first-bytes-requires : tie.Need-first-bytes-requires
+first-bytes-requires c κs = search needs
+
+slice-aggregate-read-steps : tie.Need-slice-aggregate-read-steps
+slice-aggregate-read-steps c = search needs
+
+read-steps-requires : tie.Need-read-steps-requires
+read-steps-requires c κs = search needs
+
+array-share-prefix-text : tie.Need-array-share-prefix-text
+array-share-prefix-text c = search needs
+
+slice-aggregate-first-bytes-2 : tie.Need-slice-aggregate-first-bytes-2
+slice-aggregate-first-bytes-2 c = search needs
+
+first-bytes-requires-2 : tie.Need-first-bytes-requires-2
+first-bytes-requires-2 c κs = search needs
+
+print-replay-requires : tie.Need-print-replay-requires
+print-replay-requires c κs =
+    let r = c .before .before .before .read-steps in
+    first-few (c .first-bytes2 .result .now) (take (r .result) (r .last .1 .0)) (c .first-bytes2 .ensures)
+
+returns : tie.Need-returns
+returns c = search needs
+
+pub main-spec : {M : Type 1} → statement M
+main-spec =
+    tie.close
+    (tie.spec
+    slice-aggregate-read-file
+    slice-aggregate-read-file-2
+    read-file-requires
+    array-share-prefix-buffer
+    slice-aggregate-first-bytes
+    first-bytes-requires
+    slice-aggregate-read-steps
+    read-steps-requires
+    array-share-prefix-text
+    slice-aggregate-first-bytes-2
+    first-bytes-requires-2
+    print-replay-requires
+    returns)

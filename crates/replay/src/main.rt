@@ -1,0 +1,105 @@
+// Prints the answers to the steps of the file steps.txt on the table of the file table.fits (docs/FORMAT.md, section 17).
+mod settings;
+
+ghost use mathlib.Core.Path.{_≡_};
+ghost use Rattle.io.specs.Counts.{Counts};
+ghost use lib.ListN.{length};
+ghost use Prim.Native.Nat.{_≤_};
+ghost use Rattle.output.specs.Replay.{replayLines};
+ghost use Rattle.output.specs.State.{fileLeft};
+ghost use Rattle.output.specs.Page.{pageText, pageRest};
+use layout::BinTable;
+use layout::Check;
+use libc::STDOUT_FILENO;
+use output::Page;
+use output::Start;
+use output::State;
+
+// The length of a page's buffer: it has room for every line of a file of 65,536 bytes.
+const PAGE_ROOM: usize = 131072;
+
+// Writes the next page.
+fn print_page(file: &[u8], layout: BinTable, steps: &[u8], state: State) -> Page
+    ensures len { λ r. ⌜ r .len ≡ length (pageText 131072 (fileLeft (now (file .entry)) layout (now (steps .entry)) state)) ⌝ }
+    ensures state { λ r. ⌜ fileLeft (now (file .entry)) layout (now (steps .entry)) (r .state) ≡ pageRest 131072 (fileLeft (now (file .entry)) layout (now (steps .entry)) state) ⌝ }
+{
+    let mut out = [0u8; PAGE_ROOM];
+    let page = output::next_page(file, layout, steps, state, &mut out);
+    let len = page.len;
+    io::write_all(STDOUT_FILENO, &out[..len]);
+    page
+}
+
+// Writes one page after the other: an empty one is the last.
+fn print_pages(file: &[u8], layout: BinTable, steps: &[u8], state: State) {
+    let mut current = state;
+    let mut len: usize = 1;
+    while 0 < len {
+        let page = print_page(file, layout, steps, current);
+        len = page.len;
+        current = page.state;
+    }
+}
+
+// The first bytes of a file, as many as the buffer takes. A missing file counts as an empty one.
+fn read_file(name: &[u8], buffer: &mut [u8]) -> usize
+    ensures { λ r. ⌜ Counts r (now (buffer .exit)) ⌝ }
+{
+    let fd = os::open_read(name);
+    if fd < 0 {
+        return 0;
+    }
+    let n = io::read_full(fd, buffer);
+    libc::close(fd);
+    n
+}
+
+// The layout of the table, and the state in which the program starts.
+fn replay_start(file: &[u8], steps: &[u8]) -> Start
+    requires { ⌜ length (now steps) ≤ 65536 ⌝ }
+    ensures { λ r. ⌜ fileLeft (now (file .entry)) (r .layout) (now (steps .entry)) (r .state) ≡ replayLines (now (file .entry)) (now (steps .entry)) ⌝ }
+{
+    let parsed = output::parse_file(file);
+    let check = parsed.check;
+    let layout = parsed.layout;
+    if let Check::Refused(refusal) = check {
+        return Start {
+            layout,
+            state: State::Refused(refusal),
+        };
+    }
+    let len = header::header_len(file);
+    let state = settings::first_step(layout, &file[len..], steps);
+    Start { layout, state }
+}
+
+fn print_replay(file: &[u8], steps: &[u8])
+    requires { ⌜ length (now steps) ≤ 65536 ⌝ }
+{
+    let start = replay_start(file, steps);
+    let layout = start.layout;
+    let state = start.state;
+    print_pages(file, layout, steps, state);
+}
+
+// The steps are read only if the table is accepted.
+fn read_steps(file: &[u8], buffer: &mut [u8]) -> usize
+    ensures { λ r. ⌜ Counts r (now (buffer .exit)) ⌝ }
+{
+    let parsed = output::parse_file(file);
+    let check = parsed.check;
+    if let Check::Refused(_) = check {
+        return 0;
+    }
+    read_file(b"steps.txt", buffer)
+}
+
+// The buffers take more than the bytes that are looked at, which `first_bytes` cuts off.
+fn main() {
+    let mut buffer = [0u8; 65600];
+    let n = read_file(b"table.fits", &mut buffer);
+    let file = output::first_bytes(&buffer[..n]);
+    let mut text = [0u8; 65600];
+    let m = read_steps(file, &mut text);
+    print_replay(file, output::first_bytes(&text[..m]));
+}
