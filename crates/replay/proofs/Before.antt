@@ -29,8 +29,6 @@ use Rattle.steps.proofs.Lines.{line-inside, lines-next, lines-none, feeds-next}
 use Rattle.output.specs.Cells.{headerOf, dataOf}
 use Rattle.output.specs.Replay as R
 use Rattle.output.specs.State.{stepsFrom}
-use Rattle.replay.specs.declared.settings.Chosen.{Chosen}
-use Rattle.replay.specs.declared.settings.Chosen.the-variants as C
 use Rattle.replay.specs.declared.settings.Settings.{Settings}
 use Rattle.replay.specs.declared.settings.Change.{Change}
 use Rattle.replay.specs.declared.settings.Change.the-variants as G
@@ -77,9 +75,6 @@ record Set (s : List ℕ) (t u : Settings) (y : Says) (n : ℕ) : Type 0 where
   value : settingsIn s u ≡ R.set (settingsIn s t) y
   place : u .at ≡ t .at + n + 1
 
-abbrev settingsAt : Chosen → Bool → ℕ → Settings
-settingsAt c on at = record { chosen = c; heap = on; at = at }
-
 to-same : (u v : Settings) → G.To u ≡ G.To v → u ≡ v
 to-same u v f = cc
 
@@ -87,9 +82,9 @@ not-over : (A : Type 0) (u : Settings) → G.To u ≡ G.Over → A
 not-over A u f = let z : _≡_ {A = ℕ} 0 1 = cc in absurd (omega arith)
 
 set-by : (s : List ℕ) (t u : Settings) (y : Says) (n : ℕ) → says (lineAt s (t .at)) ≡ y → G.To u ≡ changed t (commandOf y) n → Set s t u y n
-set-by s t u chooseAll n e f = let q = to-same u (settingsAt C.All (t .heap) (t .at + n + 1)) f in record { setting = refl; value = rw q; place = rw q }
-set-by s t u (choose is) n e f = let q = to-same u (settingsAt (C.LineAt (t .at)) (t .heap) (t .at + n + 1)) f in record { setting = refl; value = rw (q, e); place = rw q }
-set-by s t u (heap on) n e f = let q = to-same u (settingsAt (t .chosen) on (t .at + n + 1)) f in record { setting = refl; value = rw q; place = rw q }
+set-by s t u chooseAll n e f = let q = to-same u _ f in record { setting = refl; value = rw q; place = rw q }
+set-by s t u (choose is) n e f = let q = to-same u _ f in record { setting = refl; value = rw (q, e); place = rw q }
+set-by s t u (heap on) n e f = let q = to-same u _ f in record { setting = refl; value = rw q; place = rw q }
 set-by s t u cell n e f = not-over (Set s t u cell n) u f
 set-by s t u (row m) n e f = not-over (Set s t u (row m) n) u f
 set-by s t u (S.seek r) n e f = not-over (Set s t u (S.seek r) n) u f

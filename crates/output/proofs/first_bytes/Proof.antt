@@ -8,7 +8,7 @@ use Rattle.output.proofs.first_bytes.Statement.{statement}
 use Rattle.output.proofs.first_bytes.Tie as tie
 
 slice-aggregate-result : tie.Need-slice-aggregate-result
-slice-aggregate-result c = let f = c .before .before .args .file .now in sym (length-take-le 65536 f (omega (arith, c .before .if1 .taken)))
+slice-aggregate-result c = let f = c .before .before .args .file .now in sym (length-take-le _ f (omega (arith, c .before .if1 .taken)))
 
 returns : tie.Need-returns
 returns c = search needs
