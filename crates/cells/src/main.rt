@@ -1,9 +1,11 @@
 // Prints the table of the file table.fits: its columns and every cell (docs/FORMAT.md, section 16).
 ghost use mathlib.Core.Path.{_≡_};
+ghost use mathlib.Core.List.{[]};
+ghost use Prim.Native.Nat.{_+_, _≤_};
 ghost use Rattle.io.specs.Counts.{Counts};
 ghost use lib.ListN.{length};
 ghost use Rattle.output.specs.State.{fileLeft};
-ghost use Rattle.output.specs.Page.{pageText, pageRest};
+ghost use Rattle.output.specs.Page.{pageText, pageRest, Whole};
 use layout::BinTable;
 use libc::STDOUT_FILENO;
 use output::Page;
@@ -16,6 +18,7 @@ const PAGE_ROOM: usize = 131072;
 fn print_page(file: &[u8], layout: BinTable, steps: &[u8], state: State) -> Page
     ensures len { λ r. ⌜ r .len ≡ length (pageText 131072 (fileLeft (now (file .entry)) layout (now (steps .entry)) state)) ⌝ }
     ensures state { λ r. ⌜ fileLeft (now (file .entry)) layout (now (steps .entry)) (r .state) ≡ pageRest 131072 (fileLeft (now (file .entry)) layout (now (steps .entry)) state) ⌝ }
+    ensures whole { λ r. ⌜ Whole (length (now (file .entry)) + 128) 131072 (r .len) (fileLeft (now (file .entry)) layout (now (steps .entry)) state) ⌝ }
 {
     let mut out = [0u8; PAGE_ROOM];
     let page = output::next_page(file, layout, steps, state, &mut out);
@@ -24,8 +27,11 @@ fn print_page(file: &[u8], layout: BinTable, steps: &[u8], state: State) -> Page
     page
 }
 
-// Writes one page after the other: an empty one is the last.
-fn print_pages(file: &[u8], layout: BinTable, steps: &[u8], state: State) {
+// Writes one page after the other, until nothing is left.
+fn print_pages(file: &[u8], layout: BinTable, steps: &[u8], state: State) -> State
+    requires { ⌜ length (now file) ≤ 65536 ⌝ }
+    ensures { λ r. ⌜ fileLeft (now (file .entry)) layout (now (steps .entry)) r ≡ [] ⌝ }
+{
     let mut current = state;
     let mut len: usize = 1;
     while 0 < len {
@@ -33,9 +39,12 @@ fn print_pages(file: &[u8], layout: BinTable, steps: &[u8], state: State) {
         len = page.len;
         current = page.state;
     }
+    current
 }
 
-fn print_cells(file: &[u8]) {
+fn print_cells(file: &[u8])
+    requires { ⌜ length (now file) ≤ 65536 ⌝ }
+{
     let start = output::cells_start(file);
     let layout = start.layout;
     let state = start.state;

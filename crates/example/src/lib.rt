@@ -1,39 +1,41 @@
 // The calls of the library as README shows them.
 ghost use mathlib.Core.Path.{_≡_};
-ghost use Rattle.example.specs.Weight.{firstWeight, firstRowCell};
+ghost use lib.ListN.{getD};
+ghost use Rattle.walk.specs.Step.{replyOf, resultOf};
+ghost use Rattle.example.specs.Weight.{firstWeight, blankCell, firstRow};
 use cell::Cell;
 use cell::DataValue;
 use keyword::Found;
+use layout::Check;
+use layout::Refusal;
+use row::owners::RowCell;
 use walk::Answer;
 
-// The first cell of the column WEIGHT, an I column; 0 if there is none.
-pub fn first_weight(header: &[u8], area: &[u8]) -> i16
-    ensures { λ r. ⌜ r ≡ firstWeight (now (header .entry)) (now (area .entry)) ⌝ }
+// The first cell of the column WEIGHT, the end, or what refuses the table, the column or the cell.
+pub fn first_weight(header: &[u8], area: &[u8]) -> Answer
+    ensures { λ r. ⌜ replyOf r ≡ firstWeight (now (header .entry)) (now (area .entry)) ⌝ }
 {
     let parsed = bintable::parse(header, area);
+    let check = parsed.check;
+    if let Check::Refused(refusal) = check {
+        return Answer::Refused(refusal);
+    }
     let layout = parsed.layout;
     let found = layout::find_field_by_ttype(header, layout, b"WEIGHT");
     let Found::At(c) = found else {
-        return 0;
+        return Answer::Refused(Refusal::NoColumn);
     };
     let cols = [c];
     let opened = table::select_fields(layout, area, &cols[..], true);
     let cursor = opened.cursor;
     let stepped = table::next(layout, area, cursor);
-    let answer = stepped.answer;
-    let Answer::Cell(cell) = answer else {
-        return 0;
-    };
-    let value = cell.value;
-    let DataValue::Short(weight) = value else {
-        return 0;
-    };
-    weight
+    stepped.answer
 }
 
-// Cell k of the first row of a table whose rows have 512 cells at most; a blank one if there is none.
-pub fn of_first_row(header: &[u8], area: &[u8], k: usize) -> Cell
-    ensures { λ r. ⌜ r ≡ firstRowCell (now (header .entry)) (now (area .entry)) k ⌝ }
+// The first row read into a list of 512 cells: its answer, the cursor after it, and cell k of the list.
+pub fn of_first_row(header: &[u8], area: &[u8], k: usize) -> RowCell
+    ensures step { λ r. ⌜ resultOf (r .stepped) (firstRow (now (header .entry)) (now (area .entry)) .list) ≡ firstRow (now (header .entry)) (now (area .entry)) ⌝ }
+    ensures cell { λ r. ⌜ r .cell ≡ getD (firstRow (now (header .entry)) (now (area .entry)) .list) k blankCell ⌝ }
 {
     let parsed = bintable::parse(header, area);
     let layout = parsed.layout;
@@ -45,6 +47,5 @@ pub fn of_first_row(header: &[u8], area: &[u8], k: usize) -> Cell
         idx: 0,
         value: DataValue::Bit(0),
     };
-    let read = row::owners::row_cell(layout, area, cursor, blank, 512, k);
-    read.cell
+    row::owners::row_cell(layout, area, cursor, blank, 512, k)
 }

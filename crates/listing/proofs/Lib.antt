@@ -3,3 +3,4 @@ pub mod Turns
 pub mod Signs
 pub mod Chain
 pub mod Short
+pub mod Back

@@ -70,7 +70,7 @@ atEndLine = line (bytes "end" ∷ [])
 unfoldable pub atLine : TableData → List ℕ
 atLine c = line (bytes "at" ∷ decimalText (c .row) ∷ decimalText (c .passed) ∷ decimalText (c .count) ∷ [])
 
--- a line of the steps that is none, by its number
+-- a line of the steps that says no step, by its number
 unfoldable pub badLine : ℕ → List ℕ
 badLine n = line (bytes "bad" ∷ bytes "line" ∷ decimalText n ∷ [])
 

@@ -21,7 +21,7 @@ pub enum Line {
     End(u64),
     Refused(Refusal),
     // Those of `replay` alone: the count of a row read, the row that was sought, the end as the answer of a step, the cursor's place and
-    // count, and a line of the steps that is none, by its number.
+    // count, and a line of the steps that says no step, by its number.
     Row(u64),
     Seek(usize),
     AtEnd,

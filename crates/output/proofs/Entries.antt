@@ -33,7 +33,7 @@ module _ (h : List ℕ) (l : BinTable) (a s : List ℕ) where
   -- the lines by the answer and the cursor of a cell read
   abbrev pub cellLines : Answer → TableData → List (List ℕ)
   cellLines (A.Cell x) d = cellLine x ∷ left h l a s (S.Cells d)
-  cellLines (A.Row k) d = endLine k ∷ []
+  cellLines (A.Row k) d = []
   cellLines A.Sought d = []
   cellLines A.End d = endLine (d .count) ∷ []
   cellLines (A.Refused q) d = refusedLine (numberOf q) (placeOf q) ∷ []

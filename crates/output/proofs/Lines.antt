@@ -6,32 +6,37 @@ use mathlib.Core.Bool.{Bool, true, false, false≢true}
 use mathlib.Core.List.{List, [], _∷_, _++_, map}
 use native.Mathlib.Numerals.{add-one}
 use native.Mathlib.Omega.{arith}
-use lib.Dec.{eqb, ltb}
-use lib.ListN.{length, take, drop, getD, replicate, length-replicate}
-use lib.Seq.{take-nil, drop-cons}
+use lib.Dec.{eqb, leb, ltb}
+use lib.ListN.{length, take, drop, replicate}
+use lib.Seq.{take-nil, take-append-seam}
 use borrow.Author.Tests.{ltb-true, ltb-false, eqb-true}
 use Rattle.card.proofs.Cases.{either, by-test}
 use Rattle.layout.specs.declared.BinTable.{BinTable}
 use Rattle.cell.specs.declared.Cell.{Cell}
 use Rattle.walk.specs.declared.TableData.{TableData}
+use Rattle.walk.specs.declared.Entry.{Entry}
+use Rattle.walk.specs.declared.Entry.the-variants as E
 use Rattle.walk.specs.declared.Answer.{Answer}
 use Rattle.walk.specs.declared.Answer.the-variants as A
 use Rattle.walk.specs.declared.Stepped.{Stepped}
-use Rattle.walk.specs.Walk.{Step, readCell, readRow, seek, Reply, gotCell, gotRow, sought, atEnd, refused}
-use Rattle.walk.specs.Step.{Result, cursorStep, replyOf, resultOf}
-use Rattle.walk.proofs.Answers.{Says, answers}
-use Rattle.row.specs.Owned.{ownRead, ownList}
+use Rattle.walk.specs.Walk.{Step, readCell, readRow, seek, Reply, gotCell, gotRow, sought, atEnd, refused, Gathered, allCells, outside, gather, rest, rowOutcome, entriesFrom, walkStep}
+use Rattle.walk.specs.Walk as W
+use Rattle.walk.specs.Plain.{rowEntries}
+use Rattle.walk.specs.Step.{belongs, stateOf, cursorLeft, Result, cursorStep, replyOf, resultOf}
+use Rattle.walk.proofs.InOrder.{ReadLeft, read-left}
+use Rattle.walk.proofs.Steps.{step-unfit}
+use Rattle.row.specs.Owned.{ownRead}
 use Rattle.listing.specs.Lines.{cellLine, atLine, badLine}
 use Rattle.steps.specs.declared.Command.{Command}
 use Rattle.steps.specs.declared.Command.the-variants as C
-use Rattle.steps.specs.Split.{before, linesOf, lineFeeds}
+use Rattle.steps.specs.Split.{before, linesOf, lineAt, lineFeeds}
 use Rattle.steps.specs.Line.{says, commandOf}
 use Rattle.steps.specs.Line as S
-use Rattle.steps.proofs.Lines.{lines-next, lines-none, feeds-next}
+use Rattle.steps.proofs.Lines.{line-length, lines-next, lines-none, feeds-next}
 use Rattle.output.specs.declared.State.the-variants as T
 use Rattle.output.specs.Replay.{blank, Asked, step, none, asked, rowOf, answerLines, resultLines, lineBy, stepLines}
-use Rattle.output.specs.State.{stepsFrom, listedFrom, listedLines, left, nextLines}
-use Rattle.output.specs.Next.{answerNext, rowNext, hasCell}
+use Rattle.output.specs.State.{stepsFrom, firstCells, cellsFrom, left, nextLines}
+use Rattle.output.specs.Next.{answerNext, rowNext, listedNext}
 
 -- ---- lines of the file
 
@@ -61,10 +66,7 @@ asked-command (S.seek r) = refl
 asked-command S.bad = refl
 
 module _ (l : BinTable) (a s : List ℕ) (at : ℕ) where
-  -- the line at the place and the place after it
-  abbrev lineAt : List ℕ
-  lineAt = take (before 10 (drop at s)) (drop at s)
-
+  -- the place after the line
   abbrev afterLine : ℕ
   afterLine = at + before 10 (drop at s) + 1
 
@@ -80,19 +82,19 @@ module _ (l : BinTable) (a s : List ℕ) (at : ℕ) where
   later c n (step x) f g e = rw (e (cursorStep l a c x .cursor))
   later c n none f g e = refl
 
-  steps-next : (c : TableData) → at < length s → stepsFrom l a s at c ≡ lineBy l a c (lineFeeds (take at s) + 1) (asked (says lineAt)) (stepsFrom l a s afterLine)
+  steps-next : (c : TableData) → at < length s → stepsFrom l a s at c ≡ lineBy l a c (lineFeeds (take at s) + 1) (asked (says (lineAt s at))) (stepsFrom l a s afterLine)
   unfolding stepLines
   steps-next c h =
       rw (lines-next s at h)
-      (later c (lineFeeds (take at s) + 1) (asked (says lineAt)) (stepLines l a (suc (lineFeeds (take at s) + 1)) (linesOf (drop afterLine s))) (stepsFrom l a s afterLine) (numbered h))
+      (later c (lineFeeds (take at s) + 1) (asked (says (lineAt s at))) (stepLines l a (suc (lineFeeds (take at s) + 1)) (linesOf (drop afterLine s))) (stepsFrom l a s afterLine) (numbered h))
 
-  -- the same as the code finds the line: `rest` is what stands from the place on, n the line's length and y what it says
-  pub steps-command : (c : TableData) (rest : List ℕ) (n : ℕ) (y : Command) → at < length s → rest ≡ drop at s → n ≡ before 10 rest → y ≡ commandOf (says (take n rest))
-      → lineBy l a c (lineFeeds (take at s) + 1) (askedOf y) (stepsFrom l a s (at + n + 1)) ≡ stepsFrom l a s at c
-  steps-command c rest n y h r e f =
-      let q : y ≡ commandOf (says lineAt) = f ∙ rw (e, r) in
-      let z : n ≡ before 10 (drop at s) = e ∙ rw r in
-      rw (steps-next c h, asked-command (says lineAt), q, z)
+  -- the same as the code finds the line
+  pub steps-command : (c : TableData) (t : List ℕ) (y : Command) → at < length s → t ≡ lineAt s at → y ≡ commandOf (says t)
+      → lineBy l a c (lineFeeds (take at s) + 1) (askedOf y) (stepsFrom l a s (at + length t + 1)) ≡ stepsFrom l a s at c
+  steps-command c t y h e f =
+      let q : y ≡ commandOf (says (lineAt s at)) = f ∙ rw e in
+      let z : length t ≡ before 10 (drop at s) = rw e (line-length s at h) in
+      rw (steps-next c h, asked-command (says (lineAt s at)), q, z)
 
 pub steps-none : (l : BinTable) (a s : List ℕ) (at : ℕ) (c : TableData) → length s ≤ at → [] ≡ stepsFrom l a s at c
 unfolding stepLines
@@ -117,65 +119,91 @@ module _ (h : List ℕ) (l : BinTable) (a s : List ℕ) (at : ℕ) where
 
   -- ---- row reads
 
-  by-row : (c : TableData) (n : ℕ) (list : List Cell) (y : Answer) (d : TableData) (o : Result) → replyOf y ≡ o .reply → d ≡ o .cursor → ownRead l a c blank n ≡ o
-      → nextLines h l a s (rowNext y at c n d) ≡ resultLines (readRow list) o (stepsFrom l a s at)
-  by-row c n list (A.Cell k) d o e q f = rw (← e, q)
-  by-row c n list (A.Row k) d o e q f = let z : k - 0 ≡ k = omega arith in rw (f, ← e, z)
-  by-row c n list A.Sought d o e q f = rw (← e, q)
-  by-row c n list A.End d o e q f = rw (← e, q)
-  by-row c n list (A.Refused k) d o e q f = rw (← e, q)
+  -- the cells of a row read are those that cell reads from its cursor on hand out
+
+  by-gathered : (x : Cell) (es later : List Entry) (cs : List Cell) (g : Gathered) → ((ds : List Cell) → g ≡ allCells ds → firstCells (length ds) (es ++ later) ≡ map cellLine ds)
+      → W.before x g ≡ allCells cs → firstCells (length cs) (E.Cell x ∷ (es ++ later)) ≡ map cellLine cs
+  unfolding firstCells
+  by-gathered x es later cs (allCells ds) ih e = let q : x ∷ ds ≡ cs = cc in rw (← q) (ap (λ (ts : List (List ℕ)). cellLine x ∷ ts) (ih ds refl))
+  by-gathered x es later cs (outside k) ih e = let z : _≡_ {A = ℕ} 0 1 = cc in absurd (omega arith)
+
+  gathered : (es later : List Entry) (cs : List Cell) → gather es ≡ allCells cs → firstCells (length cs) (es ++ later) ≡ map cellLine cs
+  unfolding gather firstCells
+  gathered [] later cs e = let q : [] ≡ cs = cc in rw (← q)
+  gathered (E.Cell x ∷ es) later cs e = by-gathered x es later cs (gather es) (gathered es later) e
+  gathered (E.OutsideHeap k ∷ es) later cs e = let z : _≡_ {A = ℕ} 0 1 = cc in absurd (omega arith)
+
+  module _ (c : TableData) (list : List Cell) (k : ℕ) where
+    abbrev rows : ℕ → List Entry
+    rows = rowEntries l a (c .choice) (c .heap)
+
+    left-is : c .row < l .naxis2 → cursorLeft l a c ≡ drop (c .passed) (rows (c .row)) ++ entriesFrom rows (l .naxis2) (suc (c .row)) (l .naxis2 - suc (c .row))
+    left-is i = let z : l .naxis2 - c .row ≡ suc (l .naxis2 - suc (c .row)) = omega arith in rw z
+
+    by-rest : c .row < l .naxis2 → (g : Gathered) → rest rows (l .naxis2) (stateOf c) ≡ g → rowOutcome rows (l .naxis2) (stateOf c) list g .reply ≡ gotRow k
+        → firstCells k (cursorLeft l a c) ≡ map cellLine (take k (rowOutcome rows (l .naxis2) (stateOf c) list g .list))
+    by-rest i (outside j) e r = let z : _≡_ {A = ℕ} 0 1 = cc in absurd (omega arith)
+    by-rest i (allCells cs) e r =
+        either (leb (length cs) (length list))
+        (λ b.
+        let q : gotRow (length cs) ≡ gotRow k = rw b at r in
+        let z : length cs ≡ k = cc in
+        rw (b, ← z, left-is i, take-append-seam cs (drop (length cs) list))
+        (gathered (drop (c .passed) (rows (c .row))) (entriesFrom rows (l .naxis2) (suc (c .row)) (l .naxis2 - suc (c .row))) cs e))
+        (λ b. let q : refused 14 (length cs) ≡ gotRow k = rw b at r in let z : _≡_ {A = ℕ} 0 1 = cc in absurd (omega arith))
+
+    row-cells : cursorStep l a c (readRow list) .reply ≡ gotRow k → cellsFrom l a k c ≡ map cellLine (take k (cursorStep l a c (readRow list) .list))
+    unfolding cursorStep walkStep
+    row-cells r =
+        either (belongs l a c)
+        (λ f.
+        either (ltb (c .row) (l .naxis2))
+        (λ t. let g = rw (f, t) at r in rw (f, t) (by-rest (ltb-true _ _ t) (rest rows (l .naxis2) (stateOf c)) refl g))
+        (λ t. let q : atEnd ≡ gotRow k = rw (f, t) at r in let z : _≡_ {A = ℕ} 0 1 = cc in absurd (omega arith)))
+        (λ f. let q : refused 10 0 ≡ gotRow k = rw f at r in let z : _≡_ {A = ℕ} 0 1 = cc in absurd (omega arith))
+
+  by-row : (c : TableData) (list : List Cell) (y : Answer) (d : TableData) → let o = cursorStep l a c (readRow list) in replyOf y ≡ o .reply → d ≡ o .cursor
+      → nextLines h l a s (rowNext y at c d) ≡ resultLines (readRow list) o (stepsFrom l a s at)
+  by-row c list (A.Cell x) d e q = rw (← e, q)
+  by-row c list (A.Row k) d e q = rw (row-cells c list k (sym e), ← e, q)
+  by-row c list A.Sought d e q = rw (← e, q)
+  by-row c list A.End d e q = rw (← e, q)
+  by-row c list (A.Refused x) d e q = rw (← e, q)
 
   -- a row read into a list of n cells
   pub row-next : (c : TableData) (n : ℕ) (r : Stepped) → n ≤ 512 → resultOf r (ownRead l a c blank n .list) ≡ ownRead l a c blank n
       → let x = readRow (replicate n blank) in
-      nextLines h l a s (rowNext (r .answer) at c n (r .cursor)) ≡ resultLines x (cursorStep l a c x) (stepsFrom l a s at)
+      nextLines h l a s (rowNext (r .answer) at c (r .cursor)) ≡ resultLines x (cursorStep l a c x) (stepsFrom l a s at)
   row-next c n r k e =
       let q : min n 512 ≡ n = omega arith in
-      let x = readRow (replicate n blank) in
-      let o = ownRead l a c blank n in
-      by-row c n (replicate n blank) (r .answer) (r .cursor) o (ap (λ (y : Result). y .reply) e) (ap (λ (y : Result). y .cursor) e) refl ∙ rw q
+      let f = rw q at e in
+      by-row c (replicate n blank) (r .answer) (r .cursor) (ap (λ (o : Result). o .reply) f) (ap (λ (o : Result). o .cursor) f)
 
   -- ---- the cells of a row read
 
-  module _ (c : TableData) (n k : ℕ) where
-    abbrev own : Result
-    own = ownRead l a c blank n
+  pub listed-over : (c d : TableData) → atLine d ∷ stepsFrom l a s at d ≡ left h l a s (T.Listed at c 0 d)
+  unfolding firstCells
+  listed-over c d = either (belongs l a c) (λ t. rw t) (λ t. rw t)
 
-    cell-by : (y : Reply) → own .reply ≡ y → hasCell k y ≡ true → (k < length (own .list)) × (k < 512)
-    cell-by (gotCell x) e t = absurd (false≢true t)
-    cell-by (gotRow m) e t =
-        let z = rw e at (answers l a c (readRow (ownList blank n))) in
-        let b = ltb-true k m t in
-        let f = length-replicate (min n 512) blank in
-        (omega (arith, z .0, z .1 .0, b), omega (arith, z .0, f, b))
-    cell-by sought e t = absurd (false≢true t)
-    cell-by atEnd e t = absurd (false≢true t)
-    cell-by (refused m p) e t = absurd (false≢true t)
+  by-read : (c d : TableData) (n : ℕ) (es : List Entry) (y : Answer) (e : TableData) → ReadLeft l a c es (replyOf y) e
+      → nextLines h l a s (listedNext y at n e d) ≡ firstCells (suc n) es ++ (atLine d ∷ stepsFrom l a s at d)
+  unfolding firstCells
+  by-read c d n es (A.Cell x) e t = rw (t .0, t .1 .0)
+  by-read c d n es (A.Row k) e t = absurd t
+  by-read c d n es A.Sought e t = absurd t
+  by-read c d n es A.End e t = rw (t .0)
+  by-read c d n es (A.Refused q) e t = rw (t .1 .1)
 
-    -- there is such a cell in the list
-    pub cell-inside : hasCell k (own .reply) ≡ true → (k < length (own .list)) × (k < 512)
-    cell-inside t = cell-by (own .reply) refl t
+  by-ten : (d : TableData) (n : ℕ) (y : Answer) (e : TableData) → replyOf y ≡ refused 10 0 → nextLines h l a s (listedNext y at n e d) ≡ atLine d ∷ stepsFrom l a s at d
+  by-ten d n (A.Cell x) e t = let z : _≡_ {A = ℕ} 0 1 = cc in absurd (omega arith)
+  by-ten d n (A.Row k) e t = refl
+  by-ten d n A.Sought e t = refl
+  by-ten d n A.End e t = refl
+  by-ten d n (A.Refused q) e t = refl
 
-    cells-by : (y : Reply) (list : List Cell) → hasCell k y ≡ true → k < length list
-        → cellLine (getD list k blank) ∷ listedFrom (k + 1) y list ≡ listedFrom k y list
-    cells-by (gotCell x) list t i = absurd (false≢true t)
-    cells-by (gotRow m) list t i =
-        let j = ltb-true k m t in
-        let z : m - k ≡ suc (m - (k + 1)) = omega arith in
-        rw (z, add-one k, drop-cons list k blank i)
-    cells-by sought list t i = absurd (false≢true t)
-    cells-by atEnd list t i = absurd (false≢true t)
-    cells-by (refused m p) list t i = absurd (false≢true t)
-
-    pub listed-cell : hasCell k (own .reply) ≡ true → cellLine (getD (own .list) k blank) ∷ listedLines l a s at (k + 1) own ≡ listedLines l a s at k own
-    listed-cell t = rw (← cells-by (own .reply) (own .list) t (cell-inside t .0))
-
-    over-by : (y : Reply) (list : List Cell) → hasCell k y ≡ false → [] ≡ listedFrom k y list
-    over-by (gotCell x) list t = refl
-    over-by (gotRow m) list t = let j = ltb-false k m t in let z : m - k ≡ 0 = omega arith in rw z
-    over-by sought list t = refl
-    over-by atEnd list t = refl
-    over-by (refused m p) list t = refl
-
-    pub listed-over : hasCell k (own .reply) ≡ false → atLine (own .cursor) ∷ stepsFrom l a s at (own .cursor) ≡ listedLines l a s at k own
-    listed-over t = rw (← over-by (own .reply) (own .list) t)
+  pub listed-next : (c d : TableData) (m n : ℕ) (r : Stepped) → m ≡ suc n → resultOf r [] ≡ cursorStep l a c readCell
+      → nextLines h l a s (listedNext (r .answer) at n (r .cursor) d) ≡ left h l a s (T.Listed at c m d)
+  listed-next c d m n r e told =
+      either (belongs l a c)
+      (λ t. rw (e, t) (by-read c d n (cursorLeft l a c) (r .answer) (r .cursor) (rw (← told) at (read-left l a c t))))
+      (λ t. rw t (by-ten d n (r .answer) (r .cursor) (ap (λ (o : Result). o .reply) (told ∙ step-unfit l a c readCell t))))

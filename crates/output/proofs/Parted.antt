@@ -4,7 +4,7 @@ use Prim.Native.Nat.{ℕ, _-_, _≤_}
 use mathlib.Core.Path.{_≡_, sym, subst}
 use mathlib.Core.List.{List, []}
 use native.Mathlib.Omega.{arith}
-use lib.ListN.{length, take, drop}
+use lib.ListN.{length, take, drop, length-take}
 use lib.Seq.{length-take-le}
 use Rattle.card.proofs.Cases.{by-test}
 use Rattle.card.proofs.Parts.{part-from}
@@ -16,7 +16,7 @@ use Rattle.layout.specs.Refusal.{outcomeOf}
 use Rattle.bintable.specs.Entry.{allChecks, entry, layoutIn}
 use Rattle.output.specs.declared.State.{State}
 use Rattle.output.specs.declared.State.the-variants as S
-use Rattle.output.specs.Cells.{headerOf, dataOf, cellsLines}
+use Rattle.output.specs.Cells.{fileLimit, headerOf, dataOf, cellsLines}
 use Rattle.output.specs.State.{fileLeft}
 
 -- the header lies within the file
@@ -26,6 +26,10 @@ header-inside f = by-test (λ (n : ℕ). n ≤ length f) (hasEnd (records f)) (�
 
 pub header-length : (f : List ℕ) → headerLen f ≡ length (headerOf f)
 header-length f = sym (length-take-le (headerLen f) f (header-inside f))
+
+-- the first bytes of a file are no more than are looked at
+pub first-few : (t f : List ℕ) → t ≡ take fileLimit f → length t ≤ fileLimit
+first-few t f e = rw e (omega (arith, length-take fileLimit f))
 
 -- what holds of the two parts as the code cuts them out
 pub of-parts : (P : List ℕ → List ℕ → Type 0) (f : List ℕ) (n : ℕ) → n ≡ headerLen f → P (take n f) (take (length f - n) (drop n f)) → P (headerOf f) (dataOf f)

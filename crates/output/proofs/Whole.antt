@@ -19,6 +19,10 @@ page-whole room (t ∷ ts) =
     (λ b. rw b (append-assoc t (pageText (room - length t) ts) (linesText (pageRest (room - length t) ts)) ∙ ap (λ (s : List ℕ). t ++ s) (page-whole (room - length t) ts)))
     (λ b. rw b)
 
+pub rest-none : (room : ℕ) → pageRest room [] ≡ []
+unfolding pageRest
+rest-none room = refl
+
 -- a page has room in its buffer
 pub page-length : (room : ℕ) (ts : List (List ℕ)) → length (pageText room ts) ≤ room
 unfolding pageText

@@ -1,50 +1,49 @@
 -- What is left to print in each state of the two programs.
 -- Assumes nothing.
-use Prim.Native.Nat.{ℕ, suc, _+_, _-_}
+use Prim.Native.Nat.{ℕ, zero, suc, _+_, _-_}
 use mathlib.Core.Bool.{cond}
-use mathlib.Core.List.{List, [], _∷_, _++_, map}
+use mathlib.Core.List.{List, [], _∷_, _++_}
 use lib.ListN.{take, drop}
 use Rattle.layout.specs.declared.BinTable.{BinTable}
 use Rattle.layout.specs.Refusal.{numberOf, placeOf}
-use Rattle.cell.specs.declared.Cell.{Cell}
+use Rattle.bintable.specs.Entry as B
 use Rattle.walk.specs.declared.TableData.{TableData}
-use Rattle.walk.specs.Walk.{Reply, gotCell, gotRow, sought, atEnd, refused}
-use Rattle.walk.specs.Step.{belongs, cursorLeft, Result}
-use Rattle.row.specs.Owned.{ownRead}
-use Rattle.listing.specs.Lines.{tableLine, cellLine, refusedLine, atLine, lineText}
+use Rattle.walk.specs.declared.Entry.{Entry}
+use Rattle.walk.specs.declared.Entry.the-variants as E
+use Rattle.walk.specs.Step.{belongs, cursorLeft}
+use Rattle.listing.specs.Lines.{cellLine, refusedLine, atLine, lineText}
 use Rattle.steps.specs.Split.{linesOf, lineFeeds}
 use Rattle.output.specs.declared.State.{State}
 use Rattle.output.specs.declared.State.the-variants as S
 use Rattle.output.specs.declared.Next.{Next}
 use Rattle.output.specs.declared.Next.the-variants as N
-use Rattle.output.specs.Cells.{headerOf, dataOf, entryLines, columnLines, afterColumns}
-use Rattle.output.specs.Replay.{blank, stepLines}
+use Rattle.output.specs.Cells.{headerOf, dataOf, entryLines, columnLines, afterColumns, entryOutput}
+use Rattle.output.specs.Replay.{stepLines}
 
 -- the steps from place `at` of their file on. The number of a line is one more than the line feeds before it
 abbrev pub stepsFrom : BinTable → List ℕ → List ℕ → ℕ → TableData → List (List ℕ)
 stepsFrom l a s at = stepLines l a (lineFeeds (take at s) + 1) (linesOf (drop at s))
 
--- the cells of a row read from cell k on
-abbrev pub listedFrom : ℕ → Reply → List Cell → List (List ℕ)
-listedFrom k (gotCell c) list = []
-listedFrom k (gotRow n) list = map cellLine (take (n - k) (drop k list))
-listedFrom k sought list = []
-listedFrom k atEnd list = []
-listedFrom k (refused n p) list = []
+-- the first n of some entries as cell lines, up to an array outside the heap
+unfoldable pub firstCells : ℕ → List Entry → List (List ℕ)
+firstCells zero es = []
+firstCells (suc n) [] = []
+firstCells (suc n) (E.Cell x ∷ es) = cellLine x ∷ firstCells n es
+firstCells (suc n) (E.OutsideHeap k ∷ es) = []
 
--- with the `at` line after them, and the steps from place `at` on
-abbrev pub listedLines : BinTable → List ℕ → List ℕ → ℕ → ℕ → Result → List (List ℕ)
-listedLines l a s at k o = listedFrom k (o .reply) (o .list) ++ (atLine (o .cursor) ∷ stepsFrom l a s at (o .cursor))
+-- those from a cursor on; none where it does not belong
+abbrev pub cellsFrom : BinTable → List ℕ → ℕ → TableData → List (List ℕ)
+cellsFrom l a n c = cond (belongs l a c) (firstCells n (cursorLeft l a c)) []
 
 -- a header, a layout, a data area and a file of steps
 module _ (h : List ℕ) (l : BinTable) (a s : List ℕ) where
   abbrev pub left : State → List (List ℕ)
-  left S.Table = tableLine l ∷ (columnLines h l 0 (l .tfields) ++ afterColumns l a)
+  left S.Table = entryOutput h a (B.accepted l)
   left (S.Column c) = columnLines h l c (l .tfields - c) ++ afterColumns l a
   left (S.Cells c) = cond (belongs l a c) (entryLines (c .count) (cursorLeft l a c)) (refusedLine 10 0 ∷ [])
   left (S.Step at c) = stepsFrom l a s at c
   left (S.At at c) = atLine c ∷ stepsFrom l a s at c
-  left (S.Listed at c n k) = listedLines l a s at k (ownRead l a c blank n)
+  left (S.Listed at c n d) = cellsFrom l a n c ++ (atLine d ∷ stepsFrom l a s at d)
   left (S.Refused r) = refusedLine (numberOf r) (placeOf r) ∷ []
   left S.Done = []
 

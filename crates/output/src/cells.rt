@@ -36,10 +36,7 @@ pub fn next_cell(
             state: State::Done,
         },
         // No cell read answers so.
-        Answer::Row(cells) => Next::Line {
-            line: Line::End(cells),
-            state: State::Done,
-        },
+        Answer::Row(_) => Next::Nothing,
         Answer::Sought => Next::Nothing,
     }
 }

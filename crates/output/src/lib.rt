@@ -29,7 +29,8 @@ pub enum State {
     Table,
     Column(usize),
     Cells(TableData),
-    // `replay`: the line of the steps at this place, the cursor's place and count, cell k of a row read into a list of n cells.
+    // `replay`: the line of the steps at this place, the cursor's place and count, a cell of a row read: so many are
+    // left, which cell reads from `reader` on hand out again.
     Step {
         at: usize,
         cursor: TableData,
@@ -40,9 +41,9 @@ pub enum State {
     },
     Listed {
         at: usize,
+        reader: TableData,
+        cells: u64,
         cursor: TableData,
-        n: usize,
-        k: usize,
     },
     // A refusal, and nothing after it.
     Refused(Refusal),
@@ -50,7 +51,7 @@ pub enum State {
 }
 
 // The next line and the state after it, or nothing more.
-pub enum Next {
+enum Next {
     Line { line: Line, state: State },
     Nothing,
 }
@@ -68,7 +69,7 @@ pub struct Start {
 }
 
 // The next line. The header is that of the layout; only the text of a column's line speaks of it.
-pub fn next_line(header: &[u8], layout: BinTable, area: &[u8], steps: &[u8], state: State) -> Next
+fn next_line(header: &[u8], layout: BinTable, area: &[u8], steps: &[u8], state: State) -> Next
     ensures { λ r. ⌜ nextLines (now (header .entry)) layout (now (area .entry)) (now (steps .entry)) r ≡ left (now (header .entry)) layout (now (area .entry)) (now (steps .entry)) state ⌝ }
 {
     match state {
@@ -83,9 +84,12 @@ pub fn next_line(header: &[u8], layout: BinTable, area: &[u8], steps: &[u8], sta
             line: Line::At(cursor),
             state: State::Step { at, cursor },
         },
-        State::Listed { at, cursor, n, k } => {
-            replay::next_listed(header, layout, area, steps, at, cursor, n, k)
-        }
+        State::Listed {
+            at,
+            reader,
+            cells,
+            cursor,
+        } => replay::next_listed(header, layout, area, steps, at, reader, cells, cursor),
         State::Refused(refusal) => Next::Line {
             line: Line::Refused(refusal),
             state: State::Done,
@@ -127,7 +131,8 @@ pub fn parse_file(file: &[u8]) -> Parsed
 
 // The layout of a file's table, and the state in which `cells` starts.
 pub fn cells_start(file: &[u8]) -> Start
-    ensures { λ r. ⌜ fileLeft (now (file .entry)) (r .layout) [] (r .state) ≡ cellsLines (now (file .entry)) ⌝ }
+    ensures layout { λ r. ⌜ r .layout ≡ layoutIn (entry (headerOf (now (file .entry))) (dataOf (now (file .entry)))) ⌝ }
+    ensures lines { λ r. ⌜ fileLeft (now (file .entry)) (r .layout) [] (r .state) ≡ cellsLines (now (file .entry)) ⌝ }
 {
     let parsed = parse_file(file);
     let check = parsed.check;

@@ -2,11 +2,10 @@
 ghost use mathlib.Core.Path.{_≡_};
 ghost use Prim.Native.Nat.{_+_, _≤_};
 ghost use lib.ListN.{length, take};
-ghost use Rattle.walk.specs.Step.{replyOf};
 ghost use Rattle.steps.specs.Split.{lineFeeds};
 ghost use Rattle.output.specs.Replay.{blank};
 ghost use Rattle.output.specs.State.{left, nextLines};
-ghost use Rattle.output.specs.Next.{answerNext, rowNext, hasCell};
+ghost use Rattle.output.specs.Next.{answerNext, rowNext, listedNext};
 use crate::Next;
 use crate::State;
 use cell::Cell;
@@ -58,18 +57,18 @@ fn answered(answer: Answer, row: usize, at: usize, cursor: TableData) -> Next
     }
 }
 
-// The line of a row read's answer: the cells come after it, and are read anew from the cursor before.
-fn row_answered(answer: Answer, at: usize, before: TableData, n: usize, cursor: TableData) -> Next
-    ensures { λ r. ⌜ r ≡ rowNext answer at before n cursor ⌝ }
+// The line of a row read's answer: its cells come after it, by cell reads from the cursor before.
+fn row_answered(answer: Answer, at: usize, reader: TableData, cursor: TableData) -> Next
+    ensures { λ r. ⌜ r ≡ rowNext answer at reader cursor ⌝ }
 {
     match answer {
         Answer::Row(cells) => Next::Line {
             line: Line::Row(cells),
             state: State::Listed {
                 at,
-                cursor: before,
-                n,
-                k: 0,
+                reader,
+                cells,
+                cursor,
             },
         },
         Answer::Cell(_) => answered(answer, 0, at, cursor),
@@ -104,10 +103,9 @@ pub fn next_step(
     if steps.len() <= at {
         return Next::Nothing;
     }
-    let rest = &steps[at..];
-    let len = steps::line_len(rest);
-    let command = steps::parse_command(&rest[..len]);
-    let after = at + len + 1;
+    let line = steps::line_at(steps, at);
+    let command = steps::parse_command(line);
+    let after = at + line.len() + 1;
     match command {
         Command::Cell => {
             let stepped = table::next(layout, area, cursor);
@@ -120,7 +118,7 @@ pub fn next_step(
             let stepped = read.stepped;
             let answer = stepped.answer;
             let moved = stepped.cursor;
-            row_answered(answer, after, cursor, n, moved)
+            row_answered(answer, after, cursor, moved)
         }
         Command::Seek(row) => {
             let stepped = table::seek_to_row(layout, area, cursor, row);
@@ -135,50 +133,50 @@ pub fn next_step(
     }
 }
 
-// Whether the cells of a row read go on at cell k.
-fn has_cell(answer: Answer, k: usize) -> bool
-    ensures { λ r. ⌜ r ≡ hasCell k (replyOf answer) ⌝ }
+// The cell line of a cell read's answer, or, where that is no cell, the cursor after the row read.
+fn listed(answer: Answer, at: usize, reader: TableData, cells: u64, cursor: TableData) -> Next
+    ensures { λ r. ⌜ r ≡ listedNext answer at cells reader cursor ⌝ }
 {
+    let line = Line::At(cursor);
+    let state = State::Step { at, cursor };
     match answer {
-        Answer::Row(cells) => (k as u64) < cells,
-        Answer::Cell(_) => false,
-        Answer::Sought => false,
-        Answer::End => false,
-        Answer::Refused(_) => false,
+        Answer::Cell(cell) => Next::Line {
+            line: Line::Cell(cell),
+            state: State::Listed {
+                at,
+                reader,
+                cells,
+                cursor,
+            },
+        },
+        Answer::Row(_) => Next::Line { line, state },
+        Answer::Sought => Next::Line { line, state },
+        Answer::End => Next::Line { line, state },
+        Answer::Refused(_) => Next::Line { line, state },
     }
 }
 
-// Cell k of a row read into a list of n cells, which is read anew for each of them; after the last one the cursor's place and count.
+// The next cell of a row read; after the last one the cursor's place and count.
 pub fn next_listed(
     header: &[u8],
     layout: BinTable,
     area: &[u8],
     steps: &[u8],
     at: usize,
+    reader: TableData,
+    cells: u64,
     cursor: TableData,
-    n: usize,
-    k: usize,
 ) -> Next
-    ensures { λ r. ⌜ nextLines (now (header .entry)) layout (now (area .entry)) (now (steps .entry)) r ≡ left (now (header .entry)) layout (now (area .entry)) (now (steps .entry)) (State.Listed at cursor n k) ⌝ }
+    ensures { λ r. ⌜ nextLines (now (header .entry)) layout (now (area .entry)) (now (steps .entry)) r ≡ left (now (header .entry)) layout (now (area .entry)) (now (steps .entry)) (State.Listed at reader cells cursor) ⌝ }
 {
-    let read = row::owners::row_cell(layout, area, cursor, blank_cell(), n, k);
-    let stepped = read.stepped;
-    let cell = read.cell;
-    let answer = stepped.answer;
-    let moved = stepped.cursor;
-    if has_cell(answer, k) {
+    if cells == 0 {
         return Next::Line {
-            line: Line::Cell(cell),
-            state: State::Listed {
-                at,
-                cursor,
-                n,
-                k: k + 1,
-            },
+            line: Line::At(cursor),
+            state: State::Step { at, cursor },
         };
     }
-    Next::Line {
-        line: Line::At(moved),
-        state: State::Step { at, cursor: moved },
-    }
+    let stepped = table::next(layout, area, reader);
+    let answer = stepped.answer;
+    let moved = stepped.cursor;
+    listed(answer, at, moved, cells - 1, cursor)
 }

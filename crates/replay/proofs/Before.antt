@@ -8,7 +8,7 @@ use native.Mathlib.Numerals.{add-one}
 use native.Mathlib.Omega.{arith}
 use lib.Dec.{ltb}
 use lib.ListN.{length, take, drop, length-take, length-drop}
-use lib.Seq.{length-take-le, take-append-seam}
+use lib.Seq.{take-append-seam}
 use borrow.Author.Tests.{le-leb, ltb-true, ltb-false}
 use Rattle.card.proofs.Cases.{either}
 use Rattle.header.specs.Checks as H
@@ -25,7 +25,7 @@ use Rattle.listing.specs.Lines.{refusedLine}
 use Rattle.steps.specs.Split.{before, linesOf, lineAt, lineFeeds}
 use Rattle.steps.specs.Line.{Says, says, chooseAll, choose, heap, cell, row, bad, commandOf, listedIn}
 use Rattle.steps.specs.Line as S
-use Rattle.steps.proofs.Lines.{line-inside, lines-next, lines-none, feeds-next}
+use Rattle.steps.proofs.Lines.{lines-next, lines-none, feeds-next}
 use Rattle.output.specs.Cells.{headerOf, dataOf}
 use Rattle.output.specs.Replay as R
 use Rattle.output.specs.State.{stepsFrom}
@@ -45,10 +45,6 @@ opened-none : (l : BinTable) (a : List ℕ) (st : R.Settings) (m n : ℕ) → R.
 opened-none l a st m n = none-by l a st m n (openWith l a (st .columns) (st .heap) .outcome)
 
 module _ (s : List ℕ) (at : ℕ) (h : at < length s) where
-  -- the length of a line
-  pub line-length : length (lineAt s at) ≡ before 10 (drop at s)
-  line-length = length-take-le (before 10 (drop at s)) (drop at s) (rw (length-drop at s) (omega (arith, line-inside s at h)))
-
   abbrev afterLine : ℕ
   afterLine = at + before 10 (drop at s) + 1
 
@@ -156,7 +152,3 @@ module _ (f s : List ℕ) (l : BinTable) where
   pub replay-passed : outcomeOf Passed ≡ allChecks (headerOf f) (dataOf f) → l ≡ layoutIn (entry (headerOf f) (dataOf f))
       → R.settingLines l (dataOf f) R.defaults 1 (linesOf s) ≡ R.replayLines f s
   replay-passed e q = let z = rw (← e) at q in rw (← e, z)
-
--- the first bytes of a file are no more than are looked at
-pub first-few : (t f : List ℕ) → t ≡ take 65536 f → length t ≤ 65536
-first-few t f e = rw e (omega (arith, length-take 65536 f))

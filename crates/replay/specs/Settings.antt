@@ -1,4 +1,4 @@
--- The settings that the code keeps, and what they stand for (FORMAT.md, section 17).
+-- The settings as this program's private functions keep them, and what they stand for (FORMAT.md, section 17).
 -- Assumes nothing.
 use Prim.Native.Nat.{ℕ, _+_}
 use mathlib.Core.Path.{_≡_}

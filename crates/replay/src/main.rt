@@ -2,12 +2,13 @@
 mod settings;
 
 ghost use mathlib.Core.Path.{_≡_};
+ghost use mathlib.Core.List.{[]};
 ghost use Rattle.io.specs.Counts.{Counts};
 ghost use lib.ListN.{length};
-ghost use Prim.Native.Nat.{_≤_};
+ghost use Prim.Native.Nat.{_+_, _≤_};
 ghost use Rattle.output.specs.Replay.{replayLines};
 ghost use Rattle.output.specs.State.{fileLeft};
-ghost use Rattle.output.specs.Page.{pageText, pageRest};
+ghost use Rattle.output.specs.Page.{pageText, pageRest, Whole};
 use layout::BinTable;
 use layout::Check;
 use libc::STDOUT_FILENO;
@@ -22,6 +23,7 @@ const PAGE_ROOM: usize = 131072;
 fn print_page(file: &[u8], layout: BinTable, steps: &[u8], state: State) -> Page
     ensures len { λ r. ⌜ r .len ≡ length (pageText 131072 (fileLeft (now (file .entry)) layout (now (steps .entry)) state)) ⌝ }
     ensures state { λ r. ⌜ fileLeft (now (file .entry)) layout (now (steps .entry)) (r .state) ≡ pageRest 131072 (fileLeft (now (file .entry)) layout (now (steps .entry)) state) ⌝ }
+    ensures whole { λ r. ⌜ Whole (length (now (file .entry)) + 128) 131072 (r .len) (fileLeft (now (file .entry)) layout (now (steps .entry)) state) ⌝ }
 {
     let mut out = [0u8; PAGE_ROOM];
     let page = output::next_page(file, layout, steps, state, &mut out);
@@ -30,8 +32,11 @@ fn print_page(file: &[u8], layout: BinTable, steps: &[u8], state: State) -> Page
     page
 }
 
-// Writes one page after the other: an empty one is the last.
-fn print_pages(file: &[u8], layout: BinTable, steps: &[u8], state: State) {
+// Writes one page after the other, until nothing is left.
+fn print_pages(file: &[u8], layout: BinTable, steps: &[u8], state: State) -> State
+    requires { ⌜ length (now file) ≤ 65536 ⌝ }
+    ensures { λ r. ⌜ fileLeft (now (file .entry)) layout (now (steps .entry)) r ≡ [] ⌝ }
+{
     let mut current = state;
     let mut len: usize = 1;
     while 0 < len {
@@ -39,6 +44,7 @@ fn print_pages(file: &[u8], layout: BinTable, steps: &[u8], state: State) {
         len = page.len;
         current = page.state;
     }
+    current
 }
 
 // The first bytes of a file, as many as the buffer takes. A missing file counts as an empty one.
@@ -74,6 +80,7 @@ fn replay_start(file: &[u8], steps: &[u8]) -> Start
 }
 
 fn print_replay(file: &[u8], steps: &[u8])
+    requires { ⌜ length (now file) ≤ 65536 ⌝ }
     requires { ⌜ length (now steps) ≤ 65536 ⌝ }
 {
     let start = replay_start(file, steps);

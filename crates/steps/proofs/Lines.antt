@@ -7,13 +7,13 @@ use Prim.Native.Nat.{ℕ, suc, _+_, _≤_, _<_}
 use native.Mathlib.Numerals.{add-one}
 use native.Mathlib.Omega.{arith}
 use lib.ListN.{length, take, drop, getD, length-drop, drop-of-length-le}
-use lib.Seq.{drop-drop, drop-cons, take-add}
+use lib.Seq.{length-take-le, drop-drop, drop-cons, take-add}
 use lib.Dec.{eqb, ltb, leb, leb·suc-suc}
 use borrow.Author.Tests.{lt-ltb, le-leb, lt-leb, ltb-true, ltb-false, ne-eqb}
 use Rattle.card.specs.Text.{front}
 use Rattle.card.proofs.Cases.{either}
 use Rattle.card.proofs.Front.{front-le}
-use Rattle.steps.specs.Split.{prepend, linesOf, parts, before, lineFeeds}
+use Rattle.steps.specs.Split.{prepend, linesOf, lineAt, parts, before, lineFeeds}
 
 -- the first line of some bytes, and the lines after its line feed
 first-line : (s : List ℕ) → 0 < length s → linesOf s ≡ take (before 10 s) s ∷ linesOf (drop (suc (before 10 s)) s)
@@ -51,6 +51,9 @@ partsFrom s at = cond (leb at (length s)) (parts (drop at s)) []
 module _ (s : List ℕ) (at : ℕ) where
   pub line-inside : at < length s → at + before 10 (drop at s) ≤ length s
   line-inside h = omega (arith, front-le (λ (b : ℕ). not (eqb b 10)) (drop at s), length-drop at s)
+
+  pub line-length : at < length s → length (lineAt s at) ≡ before 10 (drop at s)
+  line-length h = length-take-le (before 10 (drop at s)) (drop at s) (rw (length-drop at s) (omega (arith, line-inside h)))
 
   pub part-inside : at ≤ length s → at + before 32 (drop at s) ≤ length s
   part-inside h = omega (arith, front-le (λ (b : ℕ). not (eqb b 32)) (drop at s), length-drop at s)

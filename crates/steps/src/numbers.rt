@@ -25,7 +25,7 @@ fn with_digit(n: usize, byte: u8) -> Found
     digit_added(n, (byte - 48) as usize)
 }
 
-// The tests come before the sums, so that none wraps: 1844674407370955161 is a tenth of 2^64.
+// The tests come before the sums, so that none wraps: 1844674407370955161 is a tenth of 2^64, rounded down.
 fn digit_added(n: usize, d: usize) -> Found
     requires { ⌜ d ≤ 9 ⌝ }
     ensures { λ r. ⌜ r ≡ cond (ltb (n * 10 + d) (2 ^ 64)) (At (n * 10 + d)) Nothing ⌝ }

@@ -1,21 +1,25 @@
--- `print_pages` ends: the measure is the number of lines left, and one more while the last page was not empty.
+-- `print_pages` meets its contract: an empty page says that nothing is left. It ends: the measure is the number of lines left, and one more while the last page was
+-- not empty.
 -- Assumes nothing.
 use Prim.Native.Nat.{_+_, min}
+use mathlib.Core.Path.{_≡_, _∙_}
+use mathlib.Core.List.{[]}
+use native.Mathlib.Omega.{arith}
 use lib.ListN.{length}
 use borrow.Author.Needs.{needs}
 use Rattle.output.specs.State.{fileLeft}
-use Rattle.output.proofs.Whole.{page-falls}
+use Rattle.output.proofs.Whole.{page-falls, rest-none}
 use Rattle.cells.proofs.print_pages.Statement.{statement}
 use Rattle.cells.proofs.print_pages.Tie as tie
 
 abbrev Inv-loop : tie.InvT-loop
-Inv-loop file layout steps current₀ len₀ current len = Unit {0}
+Inv-loop file layout steps current₀ len₀ current len = len ≡ 0 → fileLeft file layout steps current ≡ []
 
 abbrev μ-loop : tie.MeasureT-loop
 μ-loop file layout steps current₀ len₀ current len = length (fileLeft file layout steps current) + min len 1
 
 loop-holds : tie.Need-loop-holds Inv-loop μ-loop
-loop-holds c = tt
+loop-holds c e = absurd (omega (arith, e))
 
 print-page-requires : tie.Need-print-page-requires Inv-loop μ-loop
 print-page-requires c κs = search needs
@@ -27,13 +31,17 @@ loop-less c =
     let f = s .args .file .now in
     page-falls 131072 (fileLeft f (s .args .layout) (s .args .steps .now) (p .loop .current))
     (fileLeft f (s .args .layout) (s .args .steps .now) (c .print-page .result .state)) (p .loop .len) (c .print-page .result .len)
-    (c .before .loop-test .taken) (c .print-page .ensures .1) (c .print-page .ensures .0)
+    (c .before .loop-test .taken) (c .print-page .ensures .1 .0) (c .print-page .ensures .0)
 
 loop-again : tie.Need-loop-again Inv-loop μ-loop
-loop-again c = tt
+loop-again c e =
+    let s = c .before .before .before .before .before in
+    let r = c .print-page .ensures in
+    let none = r .1 .1 (omega (arith, s .pre)) e in
+    r .1 .0 ∙ rw none (rest-none 131072)
 
 returns : tie.Need-returns Inv-loop μ-loop
-returns c = tt
+returns c = c .before .loop .inv (omega (arith, c .loop-test .left))
 
 pub print-pages-spec : {M : Type 1} → statement M
 print-pages-spec =

@@ -32,7 +32,7 @@ write-all-requires : tie.Need-write-all-requires
 write-all-requires c κs = search needs
 
 returns : tie.Need-returns
-returns c = let e = c .before .before .before .next-page .ensures in (e .0, e .1 .1 .0)
+returns c = let e = c .before .before .before .next-page .ensures in (e .0, (e .1 .1 .0, e .1 .1 .1))
 
 pub print-page-spec : {M : Type 1} → statement M
 print-page-spec =

@@ -1,8 +1,8 @@
 -- `of_first_row` meets its contract.
 -- Assumes nothing.
 use mathlib.Core.Path.{ap}
-use borrow.Author.Needs.{needs}
 use Rattle.walk.specs.Step.{Opening}
+use borrow.Author.Needs.{needs}
 use Rattle.example.proofs.of_first_row.Statement.{statement}
 use Rattle.example.proofs.of_first_row.Tie as tie
 
@@ -17,8 +17,8 @@ row-cell-requires c κs = search needs
 
 returns : tie.Need-returns
 returns c =
-    let p = c .before .before .before .before .before in
-    rw (ap (λ (o : Opening). o .cursor) (c .before .before .before .«open» .ensures), p .parse .ensures .1) at (c .before .row-cell .ensures .1)
+    let p = c .before .before .before .before in
+    rw (ap (λ (o : Opening). o .cursor) (c .before .before .«open» .ensures), p .parse .ensures .1) at (c .row-cell .ensures)
 
 pub of-first-row-spec : {M : Type 1} → statement M
 of-first-row-spec = tie.close (tie.spec parse-requires open-requires row-cell-requires returns)

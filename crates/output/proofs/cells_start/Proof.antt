@@ -15,14 +15,14 @@ enum-told : tie.Need-enum-told
 enum-told c = search needs
 
 returns : tie.Need-returns
-returns c =
-    let p = c .before .before .before .before in
-    rw (c .before .check .given .1) at (cells-lines (p .before .before .args .file .now) (p .parse-file .result .check) (p .parse-file .result .layout) (p .parse-file .ensures .0) (p .parse-file .ensures .1))
+returns c = let p = c .before .before .before .before in (p .parse-file .ensures .1, rw (c .before .check .given .1) at (cells-lines (p .before .before .args .file .now) (p .parse-file .result .check) (p .parse-file .result .layout) (p .parse-file .ensures .0) (p .parse-file .ensures .1)))
 
 returns-2 : tie.Need-returns-2
 returns-2 c =
-    let p = c .before .before .before in
-    rw (c .enum-told .given .1) at (cells-lines (p .before .before .args .file .now) (p .parse-file .result .check) (p .parse-file .result .layout) (p .parse-file .ensures .0) (p .parse-file .ensures .1))
+    let p = c .before .before .before in (
+      p .parse-file .ensures .1,
+      rw (c .enum-told .given .1) at (cells-lines (p .before .before .args .file .now) (p .parse-file .result .check) (p .parse-file .result .layout) (p .parse-file .ensures .0) (p .parse-file .ensures .1)),
+    )
 
 pub cells-start-spec : {M : Type 1} → statement M
 cells-start-spec =

@@ -1,7 +1,7 @@
 -- `main` meets what its callees ask: the steps are cut to the bytes that are looked at.
 -- Assumes nothing.
 use lib.ListN.{take}
-use Rattle.replay.proofs.Before.{first-few}
+use Rattle.output.proofs.Parted.{first-few}
 use borrow.Author.Needs.{needs}
 use Rattle.replay.proofs.main.Statement.{statement}
 use Rattle.replay.proofs.main.Tie as tie
@@ -42,7 +42,11 @@ first-bytes-requires-2 c κs = search needs
 print-replay-requires : tie.Need-print-replay-requires
 print-replay-requires c κs =
     let r = c .before .before .before .read-steps in
-    first-few (c .first-bytes2 .result .now) (take (r .result) (r .last .1 .0)) (c .first-bytes2 .ensures)
+    let q = c .before .before .before .before .before in
+    let f = q .before .before .before .read-file in (
+      first-few (q .first-bytes .result .now) (take (f .result) (f .last .1 .0)) (q .first-bytes .ensures),
+      first-few (c .first-bytes2 .result .now) (take (r .result) (r .last .1 .0)) (c .first-bytes2 .ensures),
+    )
 
 returns : tie.Need-returns
 returns c = search needs

@@ -28,14 +28,14 @@ enum-known-answer-2 c = search needs
 enum-told : tie.Need-enum-told
 enum-told c = search needs
 
-cast-t17 : tie.Need-cast-t17
-cast-t17 c = search needs
-
-enum-known-answer-3 : tie.Need-enum-known-answer-3
-enum-known-answer-3 c = search needs
+cast-t16 : tie.Need-cast-t16
+cast-t16 c = search needs
 
 enum-told-2 : tie.Need-enum-told-2
 enum-told-2 c = search needs
+
+enum-told-3 : tie.Need-enum-told-3
+enum-told-3 c = search needs
 
 returns : tie.Need-returns
 returns c = rw (c .before .answer .given .1) at (read (c .before .before .before .before))
@@ -47,10 +47,10 @@ returns-3 : tie.Need-returns-3
 returns-3 c = rw (c .before .enum-told .given .1) at (read (c .before .before .before .before))
 
 returns-4 : tie.Need-returns-4
-returns-4 c = rw (c .before .answer3 .given .1) at (read (c .before .before .before .before))
+returns-4 c = rw (c .enum-told2 .given .1) at (read (c .before .before .before))
 
 returns-5 : tie.Need-returns-5
-returns-5 c = rw (c .enum-told2 .given .1) at (read (c .before .before .before))
+returns-5 c = rw (c .enum-told3 .given .1) at (read (c .before .before .before))
 
 pub next-cell-spec : {M : Type 1} → statement M
-next-cell-spec = tie.close (tie.spec next-requires enum-known-answer enum-known-answer-2 enum-told cast-t17 enum-known-answer-3 enum-told-2 returns returns-2 returns-3 returns-4 returns-5)
+next-cell-spec = tie.close (tie.spec next-requires enum-known-answer enum-known-answer-2 enum-told cast-t16 enum-told-2 enum-told-3 returns returns-2 returns-3 returns-4 returns-5)

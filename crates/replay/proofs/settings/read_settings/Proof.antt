@@ -7,9 +7,9 @@ use lib.ListN.{length}
 use borrow.Author.Needs.{needs}
 use Rattle.steps.specs.Split.{lineAt, lineFeeds}
 use Rattle.steps.specs.Line.{says, commandOf}
-use Rattle.steps.proofs.Lines.{line-inside}
+use Rattle.steps.proofs.Lines.{line-inside, line-length}
 use Rattle.replay.specs.Settings.{changed, Reading}
-use Rattle.replay.proofs.Before.{line-length, reading-next, place-next, reading-over, reading-end}
+use Rattle.replay.proofs.Before.{reading-next, place-next, reading-over, reading-end}
 use Rattle.replay.proofs.settings.read_settings.Statement.{statement}
 use Rattle.replay.proofs.settings.read_settings.Tie as tie
 

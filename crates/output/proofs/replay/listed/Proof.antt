@@ -1,8 +1,8 @@
--- `has_cell` meets its contract.
+-- `listed` meets its contract.
 -- Assumes nothing.
 use borrow.Author.Needs.{needs}
-use Rattle.output.proofs.replay.has_cell.Statement.{statement}
-use Rattle.output.proofs.replay.has_cell.Tie as tie
+use Rattle.output.proofs.replay.listed.Statement.{statement}
+use Rattle.output.proofs.replay.listed.Tie as tie
 
 enum-known-answer : tie.Need-enum-known-answer
 enum-known-answer c = search needs
@@ -23,19 +23,19 @@ returns : tie.Need-returns
 returns c = rw (c .before .answer .given .1)
 
 returns-2 : tie.Need-returns-2
-returns-2 c = search needs
+returns-2 c = rw (c .enum-told .given .1)
 
 returns-3 : tie.Need-returns-3
-returns-3 c = search needs
+returns-3 c = rw (c .enum-told2 .given .1)
 
 returns-4 : tie.Need-returns-4
-returns-4 c = search needs
+returns-4 c = rw (c .enum-told3 .given .1)
 
 returns-5 : tie.Need-returns-5
-returns-5 c = search needs
+returns-5 c = rw (c .enum-told4 .given .1)
 
-pub has-cell-spec : {M : Type 1} → statement M
-has-cell-spec =
+pub listed-spec : {M : Type 1} → statement M
+listed-spec =
     tie.close
     (tie.spec
     enum-known-answer
