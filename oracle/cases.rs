@@ -6,13 +6,17 @@
 //! in hexadecimal. PCOUNT is the number of bytes after `heap`; `pad` fills the last block with zeros.
 //! A value is written with its row, column and index; the row is the one that the Rust is at.
 
+#[allow(dead_code)]
 mod common;
 
 use common::{place, Header, BLOCK};
 use fitsrs::hdu::data::bintable::{ColumnId, DataValue};
 use fitsrs::{parse_header, row_of, set_heap, TableData};
+use std::fs;
 use std::io::{Cursor, Error, Read, Result, Seek, SeekFrom};
 use std::panic::{catch_unwind, AssertUnwindSafe};
+use std::path::{Path, PathBuf};
+use std::process::Command;
 use std::sync::atomic::{AtomicUsize, Ordering};
 
 /// Steps: `next N` cell reads, `all` cell reads up to None, `debug` one cell read shown as it is,
@@ -229,8 +233,15 @@ fn header_of(columns: &str, shape: &str) -> Header {
     }
 }
 
-/// The table of a case, opened at its first row.
-fn open(columns: &str, data: &str) -> TableData<Reader> {
+/// The table of a case as a file, the length of its header, and the read and the seek that fail.
+struct File {
+    bytes: Vec<u8>,
+    header: usize,
+    bad_read: usize,
+    bad_seek: usize,
+}
+
+fn file_of(columns: &str, data: &str) -> File {
     let (shape, words) = data.split_once(' ').unwrap_or((data, ""));
     let mut header = header_of(columns, shape);
     let (mut area, mut heap, mut pad, mut bad_read, mut bad_seek) = (vec![], None, false, 0, 0);
@@ -248,16 +259,28 @@ fn open(columns: &str, data: &str) -> TableData<Reader> {
     if pad {
         area.resize(area.len().next_multiple_of(BLOCK), 0);
     }
-    let mut file = header.bytes();
-    let parsed = parse_header(&file).expect("a good header");
-    let start = file.len() as u64;
-    file.append(&mut area);
-    let mut bytes = Cursor::new(file);
+    let mut bytes = header.bytes();
+    let header = bytes.len();
+    bytes.append(&mut area);
+    File {
+        bytes,
+        header,
+        bad_read,
+        bad_seek,
+    }
+}
+
+/// The table of a case, opened at its first row.
+fn open(columns: &str, data: &str) -> TableData<Reader> {
+    let file = file_of(columns, data);
+    let parsed = parse_header(&file.bytes[..file.header]).expect("a good header");
+    let start = file.header as u64;
+    let mut bytes = Cursor::new(file.bytes);
     bytes.set_position(start);
     let reader = Reader {
         bytes,
-        bad_read,
-        bad_seek,
+        bad_read: file.bad_read,
+        bad_seek: file.bad_seek,
     };
     TableData::new(reader, &parsed, start)
 }
@@ -422,16 +445,100 @@ fn answers_of(columns: &str, data: &str, steps: &'static str) -> Vec<String> {
     answers
 }
 
+/// The port's program `replay`, and the folder where it finds the table of a case.
+struct Port {
+    program: PathBuf,
+    folder: PathBuf,
+}
+
+impl Port {
+    /// What it prints for a list of steps, without the places, an answer each.
+    fn answers(&self, steps: &str) -> Vec<String> {
+        fs::write(self.folder.join("steps.txt"), steps).expect("a file that can be written");
+        let output = Command::new(&self.program)
+            .current_dir(&self.folder)
+            .output();
+        let output = output.expect("a program that can be run").stdout;
+        let lines = String::from_utf8(output).expect("a text");
+        let lines = lines.lines().filter(|line| !line.starts_with("at "));
+        lines.map(str::to_string).collect()
+    }
+
+    /// A step up to the answer that no cell follows.
+    fn up_to_end(&self, steps: &mut String, step: &str) {
+        loop {
+            steps.push_str(step);
+            let answers = self.answers(steps);
+            let last = answers.last().expect("an answer to each step");
+            if last == "end" || last.starts_with("refused") {
+                break;
+            }
+        }
+    }
+
+    /// The answers to a case, or why it cannot be put to the port.
+    fn run(&self, file: &File, steps: &str) -> std::result::Result<Vec<String>, &'static str> {
+        if file.bad_read + file.bad_seek > 0 {
+            return Err("not here: there is no reader that could fail");
+        }
+        fs::write(self.folder.join("table.fits"), &file.bytes).expect("a file that can be written");
+        let mut lines = String::new();
+        let mut reading = false;
+        for step in steps.split("; ") {
+            let (name, rest) = step.split_once(' ').unwrap_or((step, ""));
+            let setting = name == "heap" || name == "pick";
+            if setting && reading {
+                return Err("not here: a choice is made at opening");
+            }
+            reading |= !setting;
+            match name {
+                "next" => lines.push_str(&"cell\n".repeat(number(rest))),
+                "all" => self.up_to_end(&mut lines, "cell\n"),
+                "debug" => lines.push_str("cell\n"),
+                "row" => lines.push_str("row 512\n"),
+                "rows" => self.up_to_end(&mut lines, "row 512\n"),
+                "pick" if rest.is_empty() => return Err("not here: `choose` has an index"),
+                "pick" if rest.contains('=') => return Err("not here: a choice is by index"),
+                "pick" => lines.push_str(&format!("choose {rest}\n")),
+                _ => lines.push_str(&format!("{step}\n")),
+            }
+        }
+        Ok(self.answers(&lines))
+    }
+}
+
+/// The port's answers, or the Rust's if no program is given.
+fn answer(port: Option<&Port>, columns: &str, data: &str, steps: &'static str) -> String {
+    match port {
+        None => answers_of(columns, data, steps).join("; "),
+        Some(port) => match port.run(&file_of(columns, data), steps) {
+            Ok(answers) => answers.join("; "),
+            Err(why) => why.to_string(),
+        },
+    }
+}
+
+/// `cases` prints what the Rust answers; `cases PROGRAMS FOLDER` what the port's `replay` does, run in FOLDER.
 fn main() {
     // A panic is an answer here, so it is not to be reported as well.
     std::panic::set_hook(Box::new(|_| {}));
     log::set_logger(&CountWarnings).expect("the only logger");
     log::set_max_level(log::LevelFilter::Warn);
+    let words: Vec<String> = std::env::args().skip(1).collect();
+    let port = match &words[..] {
+        [programs, folder] => {
+            fs::create_dir_all(folder).expect("a folder that can be made");
+            let program = Path::new(programs).join("replay");
+            let folder = PathBuf::from(folder);
+            Some(Port { program, folder })
+        }
+        _ => None,
+    };
     for line in CASES.lines() {
         let fields: Vec<&'static str> = line.split(" | ").collect();
         match fields[..] {
             [_, columns, data, steps] => {
-                println!("{line} => {}", answers_of(columns, data, steps).join("; "))
+                println!("{line} => {}", answer(port.as_ref(), columns, data, steps))
             }
             _ => println!("{line}"),
         }

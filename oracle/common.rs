@@ -1,8 +1,65 @@
-//! What both programs need: the bytes of a table's header, and the place of a value.
+//! What the programs need in common: random numbers, items and descriptors, the bytes of a plain header, and
+//! the place, letter and bytes of a value of the crate.
 
 use fitsrs::hdu::data::bintable::{ColumnId, DataValue};
 
 pub const BLOCK: usize = 2880;
+/// The letters of the domain: all but X. A logical is always T there.
+pub const LETTERS: &[u8] = b"LBAIJKEDCM";
+pub const TRUE: u8 = b'T';
+
+/// A xorshift generator, so that a seed gives the same tables everywhere.
+pub struct Random(u64);
+
+impl Random {
+    /// The seed is not 0.
+    pub fn new(seed: u64) -> Random {
+        Random(seed.wrapping_mul(0x9E37_79B9_7F4A_7C15))
+    }
+
+    pub fn draw(&mut self) -> u64 {
+        self.0 ^= self.0 << 13;
+        self.0 ^= self.0 >> 7;
+        self.0 ^= self.0 << 17;
+        self.0.wrapping_mul(0x2545_F491_4F6C_DD1D) >> 11
+    }
+
+    pub fn below(&mut self, bound: usize) -> usize {
+        (self.draw() % bound as u64) as usize
+    }
+
+    pub fn byte(&mut self) -> u8 {
+        self.draw() as u8
+    }
+}
+
+#[derive(Clone, Copy, PartialEq, Eq, Hash)]
+pub enum Kind {
+    Field,
+    P,
+    Q,
+}
+
+pub fn item_width(letter: char) -> usize {
+    match letter {
+        'L' | 'B' | 'A' => 1,
+        'I' => 2,
+        'J' | 'E' => 4,
+        'K' | 'D' | 'C' => 8,
+        _ => 16,
+    }
+}
+
+pub fn descriptor(kind: Kind, count: usize, offset: usize) -> Vec<u8> {
+    match kind {
+        Kind::P => [(count as u32).to_be_bytes(), (offset as u32).to_be_bytes()].concat(),
+        _ => [(count as u64).to_be_bytes(), (offset as u64).to_be_bytes()].concat(),
+    }
+}
+
+pub fn number(bytes: &[u8]) -> usize {
+    bytes.iter().fold(0, |n, byte| n << 8 | usize::from(*byte))
+}
 
 /// What the header of a table says.
 pub struct Header {
@@ -65,5 +122,38 @@ pub fn place(value: &DataValue) -> Option<(usize, usize)> {
             ColumnId::Name(_) => unreachable!("the crate gives columns by index"),
         },
         VariableLengthArray32 { .. } | VariableLengthArray64 { .. } => None,
+    }
+}
+
+/// The letter of a value of the crate, and the bytes that it stands for in a table.
+pub fn letter_and_bytes(value: &DataValue) -> (char, Vec<u8>) {
+    use DataValue::*;
+    match value {
+        Logical { value, .. } => ('L', vec![if *value { TRUE } else { b'F' }]),
+        Bit { byte, .. } => ('X', vec![*byte]),
+        UnsignedByte { value, .. } => ('B', vec![*value]),
+        Short { value, .. } => ('I', value.to_be_bytes().to_vec()),
+        Integer { value, .. } => ('J', value.to_be_bytes().to_vec()),
+        Long { value, .. } => ('K', value.to_be_bytes().to_vec()),
+        // A byte is the character of the same number; a longer character is no byte of a table.
+        Character { value, .. } => ('A', u8::try_from(*value).into_iter().collect()),
+        Float { value, .. } => ('E', value.to_bits().to_be_bytes().to_vec()),
+        Double { value, .. } => ('D', value.to_bits().to_be_bytes().to_vec()),
+        ComplexFloat { real, imag, .. } => {
+            let parts = [real, imag].map(|part| part.to_bits().to_be_bytes());
+            ('C', parts.concat())
+        }
+        ComplexDouble { real, imag, .. } => {
+            let parts = [real, imag].map(|part| part.to_bits().to_be_bytes());
+            ('M', parts.concat())
+        }
+        VariableLengthArray32 {
+            num_elems: count,
+            offset_byte: offset,
+        } => ('P', [count, offset].map(|n| n.to_be_bytes()).concat()),
+        VariableLengthArray64 {
+            num_elems: count,
+            offset_byte: offset,
+        } => ('Q', [count, offset].map(|n| n.to_be_bytes()).concat()),
     }
 }

@@ -6,44 +6,17 @@
 //! is to be made all the same, `between-heap-items` or `before-first-read`. The status is 0 if there
 //! was no difference, 1 if there was one.
 
+#[allow(dead_code)]
 mod common;
 
-use common::{place, Header};
+use common::{
+    descriptor, item_width, letter_and_bytes, number, place, Header, Kind, Random, LETTERS, TRUE,
+};
 use fitsrs::hdu::data::bintable::{ColumnId, DataValue};
 use fitsrs::{parse_header, row_of, set_heap, TableData};
 use std::io::Cursor;
 use std::ops::Range;
 use std::panic::{catch_unwind, AssertUnwindSafe};
-
-const LETTERS: &[u8] = b"LBAIJKEDCM";
-const TRUE: u8 = b'T';
-
-/// A xorshift generator, so that a seed gives the same tables everywhere.
-struct Random(u64);
-
-impl Random {
-    fn draw(&mut self) -> u64 {
-        self.0 ^= self.0 << 13;
-        self.0 ^= self.0 >> 7;
-        self.0 ^= self.0 << 17;
-        self.0.wrapping_mul(0x2545_F491_4F6C_DD1D) >> 11
-    }
-
-    fn below(&mut self, bound: usize) -> usize {
-        (self.draw() % bound as u64) as usize
-    }
-
-    fn byte(&mut self) -> u8 {
-        self.draw() as u8
-    }
-}
-
-#[derive(Clone, Copy, PartialEq)]
-enum Kind {
-    Field,
-    P,
-    Q,
-}
 
 #[derive(Clone, Copy)]
 struct Column {
@@ -51,16 +24,6 @@ struct Column {
     letter: char,
     count: usize,
     start: usize,
-}
-
-fn item_width(letter: char) -> usize {
-    match letter {
-        'L' | 'B' | 'A' => 1,
-        'I' => 2,
-        'J' | 'E' => 4,
-        'K' | 'D' | 'C' => 8,
-        _ => 16,
-    }
 }
 
 impl Column {
@@ -171,13 +134,6 @@ impl Table {
     }
 }
 
-fn descriptor(kind: Kind, count: usize, offset: usize) -> Vec<u8> {
-    match kind {
-        Kind::P => [(count as u32).to_be_bytes(), (offset as u32).to_be_bytes()].concat(),
-        _ => [(count as u64).to_be_bytes(), (offset as u64).to_be_bytes()].concat(),
-    }
-}
-
 /// What a reader is asked for: columns, or all of them, and arrays or descriptors.
 struct Choice {
     /// As given to the crate: in any order, and now and then with an index that no column has.
@@ -262,43 +218,6 @@ impl Table {
             inside_array: array && idx > 0,
         };
         (0..count).map(cell).collect()
-    }
-}
-
-fn number(bytes: &[u8]) -> usize {
-    bytes.iter().fold(0, |n, byte| n << 8 | usize::from(*byte))
-}
-
-/// The letter of a value of the crate, and the bytes that it stands for in a table.
-fn letter_and_bytes(value: &DataValue) -> (char, Vec<u8>) {
-    use DataValue::*;
-    match value {
-        Logical { value, .. } => ('L', vec![if *value { TRUE } else { b'F' }]),
-        Bit { byte, .. } => ('X', vec![*byte]),
-        UnsignedByte { value, .. } => ('B', vec![*value]),
-        Short { value, .. } => ('I', value.to_be_bytes().to_vec()),
-        Integer { value, .. } => ('J', value.to_be_bytes().to_vec()),
-        Long { value, .. } => ('K', value.to_be_bytes().to_vec()),
-        // A byte is the character of the same number; a longer character is no byte of a table.
-        Character { value, .. } => ('A', u8::try_from(*value).into_iter().collect()),
-        Float { value, .. } => ('E', value.to_bits().to_be_bytes().to_vec()),
-        Double { value, .. } => ('D', value.to_bits().to_be_bytes().to_vec()),
-        ComplexFloat { real, imag, .. } => {
-            let parts = [real, imag].map(|part| part.to_bits().to_be_bytes());
-            ('C', parts.concat())
-        }
-        ComplexDouble { real, imag, .. } => {
-            let parts = [real, imag].map(|part| part.to_bits().to_be_bytes());
-            ('M', parts.concat())
-        }
-        VariableLengthArray32 {
-            num_elems: count,
-            offset_byte: offset,
-        } => ('P', [count, offset].map(|n| n.to_be_bytes()).concat()),
-        VariableLengthArray64 {
-            num_elems: count,
-            offset_byte: offset,
-        } => ('Q', [count, offset].map(|n| n.to_be_bytes()).concat()),
     }
 }
 
@@ -475,7 +394,7 @@ fn main() {
     };
     // A panic of the crate is a difference, so it is not to be reported as well.
     std::panic::set_hook(Box::new(|_| {}));
-    let mut random = Random(seed.wrapping_mul(0x9E37_79B9_7F4A_7C15));
+    let mut random = Random::new(seed);
     let mut totals = Totals::default();
     let mut differences = 0;
     for table in 0..tables {

@@ -52,3 +52,18 @@ pub inside-wider : (m n : ℕ) (f : Field) → m ≤ n → ItemsInside m f → I
 inside-wider m n (Items ty at k) h i = le-trans i h
 inside-wider m n (Descriptor v) h i = tt
 inside-wider m n OutsideHeap h i = tt
+
+-- the entries of a field, wherever it lies
+pub field-bound : (a : List ℕ) (p : ℕ) (column : Column) (heap : Bool) (theap end : ℕ)
+    → sizeOf (field a p column heap theap end) ≤ columnBytes column + end + 1
+unfolding field field32 field64
+field-bound a p column heap theap end = by-form-bound (column .form) (column .count)
+  where
+    by-form-bound : (f : TFormType) (n : ℕ) → sizeOf (fieldBy a p f n heap theap end) ≤ fieldBytes f n + end + 1
+    by-form-bound (F.Items ty) n = omega (arith, mul-le-mul-left (items ty n) (width-pos ty))
+    by-form-bound (F.P ty) n =
+        by-test (λ (f : Field). sizeOf f ≤ fieldBytes (F.P ty) n + end + 1) heap
+        (λ t. omega (arith, size-bound end (array theap end ty (word a p 4) (word a (p + 4) 4)) (array-inside theap end ty (word a p 4) (word a (p + 4) 4)))) (λ t. omega arith)
+    by-form-bound (F.Q ty) n =
+        by-test (λ (f : Field). sizeOf f ≤ fieldBytes (F.Q ty) n + end + 1) heap
+        (λ t. omega (arith, size-bound end (array theap end ty (word a p 8) (word a (p + 8) 8)) (array-inside theap end ty (word a p 8) (word a (p + 8) 8)))) (λ t. omega arith)

@@ -6,4 +6,5 @@ pub mod Signed
 pub mod Nan
 pub mod Arrays
 pub mod Values
+pub mod Items
 pub mod Inside

@@ -1,6 +1,6 @@
 // One item of a field or of a heap array and its value, and the array that a descriptor names.
-mod floats;
-mod words;
+pub mod floats;
+pub mod words;
 
 ghost use mathlib.Core.Path.{_≡_};
 ghost use Rattle.cell.specs.Item.{logical, item};
@@ -76,7 +76,7 @@ pub enum Field {
     OutsideHeap,
 }
 
-fn read_logical(byte: u8) -> Logical
+pub fn read_logical(byte: u8) -> Logical
     ensures { λ r. ⌜ r ≡ logical byte ⌝ }
 {
     match byte {
@@ -154,7 +154,7 @@ pub fn array(theap: u64, end: u64, ty: VariableArrayTy, num_elems: u64, offset_b
         return Field::OutsideHeap;
     }
     let n = tform::item_count(ty, num_elems);
-    let width = tform::item_width(tform::letter(ty)) as u64;
+    let width = tform::width(ty);
     // No product, which could wrap.
     if (end - theap - offset_byte) / width < n {
         return Field::OutsideHeap;

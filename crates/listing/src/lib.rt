@@ -6,6 +6,7 @@ mod values;
 mod words;
 
 ghost use mathlib.Core.Path.{_≡_};
+ghost use Rattle.listing.specs.Text.{decimalText};
 ghost use Rattle.listing.specs.Lines.{lineText};
 ghost use Rattle.listing.specs.Buffer.{written, writtenTo};
 use cell::Cell;
@@ -53,4 +54,22 @@ pub fn put_line(out: &mut [u8], at: usize, header: &[u8], layout: BinTable, line
         Line::At(cursor) => lines::at_line(out, at, cursor),
         Line::BadLine(number) => lines::number_line(out, at, b"bad line", number as u64),
     }
+}
+
+// Writes some bytes, as `put_line` does.
+pub fn put_text(out: &mut [u8], at: usize, text: &[u8]) -> Written
+    ensures to { λ r. ⌜ r ≡ writtenTo (now (out .entry)) at (now (text .entry)) ⌝ }
+    ensures buffer { λ _. ⌜ now (out .exit) ≡ written (now (out .entry)) at (now (text .entry)) ⌝ }
+{
+    lines::put_text(out, at, text)
+}
+
+// Writes the decimal digits of a number, as `put_line` does.
+pub fn put_decimal(out: &mut [u8], at: usize, number: u64) -> Written
+    ensures to { λ r. ⌜ r ≡ writtenTo (now (out .entry)) at (decimalText number) ⌝ }
+    ensures buffer { λ _. ⌜ now (out .exit) ≡ written (now (out .entry)) at (decimalText number) ⌝ }
+{
+    let mut text = [0u8; 20];
+    let n = digits::put_decimal(&mut text, 0, number);
+    lines::put_text(out, at, &text[..n])
 }

@@ -1,23 +1,26 @@
 // Prints the answers to the steps of the file steps.txt on the table of the file table.fits (docs/FORMAT.md, section 17).
-mod settings;
-
 ghost use mathlib.Core.Path.{_≡_};
 ghost use mathlib.Core.List.{[]};
 ghost use Rattle.io.specs.Counts.{Counts};
 ghost use lib.ListN.{length};
 ghost use Prim.Native.Nat.{_+_, _≤_};
-ghost use Rattle.output.specs.Replay.{replayLines};
 ghost use Rattle.output.specs.State.{fileLeft};
 ghost use Rattle.output.specs.Page.{pageText, pageRest, Whole};
 use layout::BinTable;
 use layout::Check;
 use libc::STDOUT_FILENO;
 use output::Page;
-use output::Start;
 use output::State;
 
 // The length of a page's buffer: it has room for every line of a file of 65,536 bytes.
 const PAGE_ROOM: usize = 131072;
+
+// A buffer. Its contents do not matter, and the proof of a caller is shorter without them.
+fn zeros() -> [u8; PAGE_ROOM]
+    ensures { λ r. ⌜ 131072 ≡ length r ⌝ }
+{
+    [0; PAGE_ROOM]
+}
 
 // Writes the next page.
 fn print_page(file: &[u8], layout: BinTable, steps: &[u8], state: State) -> Page
@@ -25,7 +28,7 @@ fn print_page(file: &[u8], layout: BinTable, steps: &[u8], state: State) -> Page
     ensures state { λ r. ⌜ fileLeft (now (file .entry)) layout (now (steps .entry)) (r .state) ≡ pageRest 131072 (fileLeft (now (file .entry)) layout (now (steps .entry)) state) ⌝ }
     ensures whole { λ r. ⌜ Whole (length (now (file .entry)) + 128) 131072 (r .len) (fileLeft (now (file .entry)) layout (now (steps .entry)) state) ⌝ }
 {
-    let mut out = [0u8; PAGE_ROOM];
+    let mut out = zeros();
     let page = output::next_page(file, layout, steps, state, &mut out);
     let len = page.len;
     io::write_all(STDOUT_FILENO, &out[..len]);
@@ -60,33 +63,13 @@ fn read_file(name: &[u8], buffer: &mut [u8]) -> usize
     n
 }
 
-// The layout of the table, and the state in which the program starts.
-fn replay_start(file: &[u8], steps: &[u8]) -> Start
-    requires { ⌜ length (now steps) ≤ 65536 ⌝ }
-    ensures { λ r. ⌜ fileLeft (now (file .entry)) (r .layout) (now (steps .entry)) (r .state) ≡ replayLines (now (file .entry)) (now (steps .entry)) ⌝ }
-{
-    let parsed = output::parse_file(file);
-    let check = parsed.check;
-    let layout = parsed.layout;
-    if let Check::Refused(refusal) = check {
-        return Start {
-            layout,
-            state: State::Refused(refusal),
-        };
-    }
-    let len = header::header_len(file);
-    let state = settings::first_step(layout, &file[len..], steps);
-    Start { layout, state }
-}
-
 fn print_replay(file: &[u8], steps: &[u8])
     requires { ⌜ length (now file) ≤ 65536 ⌝ }
-    requires { ⌜ length (now steps) ≤ 65536 ⌝ }
 {
-    let start = replay_start(file, steps);
+    let start = settings::replay_start(file, steps);
     let layout = start.layout;
     let state = start.state;
-    print_pages(file, layout, steps, state);
+    print_pages(file, layout, output::first_bytes(steps), state);
 }
 
 // The steps are read only if the table is accepted.
@@ -101,12 +84,12 @@ fn read_steps(file: &[u8], buffer: &mut [u8]) -> usize
     read_file(b"steps.txt", buffer)
 }
 
-// The buffers take more than the bytes that are looked at, which `first_bytes` cuts off.
+// The buffers take more than the bytes that are looked at.
 fn main() {
-    let mut buffer = [0u8; 65600];
+    let mut buffer = zeros();
     let n = read_file(b"table.fits", &mut buffer);
     let file = output::first_bytes(&buffer[..n]);
-    let mut text = [0u8; 65600];
+    let mut text = zeros();
     let m = read_steps(file, &mut text);
-    print_replay(file, output::first_bytes(&text[..m]));
+    print_replay(file, &text[..m]);
 }

@@ -5,6 +5,7 @@ pub mod Left
 pub mod Lengths
 pub mod Lent
 pub mod Owned
+pub mod PlainRow
 pub mod Runs
 pub mod Stored
 pub mod Values

@@ -4,16 +4,21 @@ use Prim.Native.Nat.{ℕ, zero, suc, _+_, _*_, _≤_, _<_, _^_}
 use mathlib.Core.Path.{_≡_, refl, sym, ap, _∙_}
 use mathlib.Core.Bool.{true}
 use mathlib.Core.List.{List, [], _∷_, _++_, append-assoc}
-use native.Mathlib.Nat.{sub-zero}
+use native.Mathlib.Nat.{sub-zero, mul-le-mul-right}
 use native.Mathlib.Omega.{arith}
 use lib.ListN.{length, getD, set, drop, length-append, length-drop}
 use lib.Seq.{drop-nil, drop-cons, drop-drop, set-at}
 use lib.Dec.{leb, ltb}
 use borrow.Author.Tests.{leb-true, ltb-true}
 use Rattle.card.proofs.Cases.{by-test}
+use Rattle.layout.specs.declared.Column.{Column}
 use Rattle.layout.specs.declared.BinTable.{BinTable}
-use Rattle.layout.specs.Layout.{layoutOk}
+use Rattle.layout.specs.Layout.{layoutOk, dataLimit}
 use Rattle.cell.specs.declared.Cell.{Cell}
+use Rattle.cell.specs.declared.Field.{Field}
+use Rattle.cell.specs.declared.Field.the-variants as F
+use Rattle.cell.specs.Item.{width}
+use Rattle.cell.specs.Field.{ItemsInside}
 use Rattle.walk.specs.declared.TableData.{TableData}
 use Rattle.walk.specs.declared.Answer.the-variants as A
 use Rattle.walk.specs.declared.Stepped.{Stepped}
@@ -24,8 +29,9 @@ use Rattle.walk.specs.Step.{belongs, stateOf, stepped, Result, withCursor, curs
 use Rattle.walk.proofs.Inside.{fits-layout, limits, column-in-row, row-in-main, data-bound, items-bound}
 use Rattle.walk.proofs.Laws.{from-row}
 use Rattle.walk.proofs.Steps.{belongs-fits}
+use Rattle.row.specs.declared.plan.FieldKind.{FieldKind}
 use Rattle.row.specs.declared.plan.RowPlan.{RowPlan}
-use Rattle.row.specs.Plan.{fieldPlan, isOutside, plannedCell, PlanOk, storedAt, filled, RowFits, leftOf, planFor, restPlan, rowPlan}
+use Rattle.row.specs.Plan.{planOf, fieldPlan, isOutside, plannedCell, PlanOk, storedAt, filled, RowFits, leftOf, planFor, restPlan, rowPlan}
 use Rattle.row.proofs.Fields.{by-both, cellsFrom, cells-length, cells-before, cells-more, beforeAll, fieldOn, column-gathered}
 
 -- ---- the list after a field's cells
@@ -62,6 +68,15 @@ stored-on f n cs fill d pre zs h =
     (sym (append-assoc xs cs (drop (length cs) (drop n zs)))
     ∙ ap (λ (ys : List Cell). (xs ++ cs) ++ ys) (drop-drop (length cs) n zs ∙ ap (λ (i : ℕ). drop i zs) (sym e)))
 
+-- ---- the plan of a field
+
+-- the places of a field whose place is a number of 64 bits, and whose items lie inside the data, are such numbers
+field-ok : (r c : ℕ) (column : Column) (kind : FieldKind) (p skip : ℕ) (f : Field) → p < 2 ^ 64 → ItemsInside dataLimit f → PlanOk (planOf r c column kind p skip f)
+field-ok r c column kind p skip (F.Items ty at n) l h = λ i q.
+    let m : skip + i ≤ n = omega (arith, q) in omega (arith, h, mul-le-mul-right (width ty) m)
+field-ok r c column kind p skip (F.Descriptor v) l h = λ i q. let e : skip + i ≡ 0 = omega (arith, q) in rw e (omega (arith, l))
+field-ok r c column kind p skip F.OutsideHeap l h = λ i q. let e : skip + i ≡ 0 = omega (arith, q) in rw e (omega arith)
+
 -- ---- the columns, one after the other
 
 module _ (l : BinTable) (a : List ℕ) (c : TableData) (s : Stepped) where
@@ -95,14 +110,14 @@ module _ (l : BinTable) (a : List ℕ) (c : TableData) (s : Stepped) where
   Fits k m skip (outside j) = Unit {0}
 
   module _ (ok : layoutOk l ≡ true) (hr : c .row < l .naxis2) where
+    pub start-fits : (k : ℕ) → k < l .tfields → c .row * l .naxis1 + columnOf l k .start < 2 ^ 64
+    start-fits k h = omega (arith, column-in-row l ok k h, row-in-main l ok (c .row) hr, data-bound l ok)
+
     plan-ok : (k skip : ℕ) → k < l .tfields → PlanOk (fieldOn l a c s k skip)
     unfolding fieldPlan fieldOf
     plan-ok k skip h =
-        by-test PlanOk (chosen (c .choice) k) (λ t. ((λ i q. omega (arith, q)), items-bound l ok a (c .heap) (c .row) k hr h))
-        (λ t. ((λ i q. omega (arith, q)), tt))
-
-    pub start-fits : (k : ℕ) → k < l .tfields → c .row * l .naxis1 + columnOf l k .start < 2 ^ 64
-    start-fits k h = omega (arith, column-in-row l ok k h, row-in-main l ok (c .row) hr, data-bound l ok)
+        by-test PlanOk (chosen (c .choice) k) (λ t. field-ok _ _ _ _ _ skip (fieldOf l a (c .heap) (c .row) k) (start-fits k h) (items-bound l ok a (c .heap) (c .row) k hr h))
+        (λ t i q. absurd (omega (arith, q)))
 
     fits-on : (k m skip : ℕ) (g : Gathered) → k < l .tfields → Fits (suc k) m (fieldOn l a c s k skip .skip) g
         → Fits k (suc m) skip (beforeAll (cellsFrom (plannedCell a (fieldOn l a c s k skip)) 0 (fieldOn l a c s k skip .n)) g)

@@ -6,63 +6,94 @@ use mathlib.Core.Bool.{Bool, false, cond}
 use mathlib.Core.List.{List, []}
 use lib.ListN.{length, getD, set}
 use lib.Dec.{leb, ltb}
+use Rattle.tform.specs.declared.VariableArrayTy.{VariableArrayTy}
+use Rattle.tform.specs.declared.VariableArrayTy.the-variants.{L}
+use Rattle.tform.specs.declared.TFormType.{TFormType}
+use Rattle.tform.specs.declared.TFormType.the-variants as T
 use Rattle.layout.specs.declared.Column.{Column}
 use Rattle.layout.specs.declared.BinTable.{BinTable}
 use Rattle.layout.specs.declared.Refusal.the-variants as R
-use Rattle.layout.specs.Layout.{noColumn, dataSize, dataLimit}
+use Rattle.layout.specs.Layout.{noColumn, dataSize}
 use Rattle.cell.specs.declared.Cell.{Cell}
+use Rattle.cell.specs.declared.DataValue.{DataValue}
 use Rattle.cell.specs.declared.DataValue.the-variants as D
-use Rattle.cell.specs.declared.Logical.the-variants as Logic
 use Rattle.cell.specs.declared.Field.{Field}
 use Rattle.cell.specs.declared.Field.the-variants as F
-use Rattle.cell.specs.Field.{field, sizeOf, ItemsInside}
+use Rattle.cell.specs.Item.{word, width, item}
+use Rattle.cell.specs.Field.{field}
 use Rattle.walk.specs.declared.TableData.{TableData}
 use Rattle.walk.specs.declared.Answer.{Answer}
 use Rattle.walk.specs.declared.Answer.the-variants as A
 use Rattle.walk.specs.declared.Stepped.{Stepped}
-use Rattle.walk.specs.Plain.{cellOf, itemAt, chosen, rowEntries}
+use Rattle.walk.specs.Plain.{cellOf, chosen, rowEntries}
 use Rattle.walk.specs.Walk.{readRow, placed, grown, Gathered, allCells, outside, rest}
 use Rattle.walk.specs.Step.{belongs, stateOf, cursorAt, stepped}
 use Rattle.row.specs.declared.plan.RowPlan.{RowPlan}
+use Rattle.row.specs.declared.plan.FieldKind.{FieldKind}
+use Rattle.row.specs.declared.plan.FieldKind.the-variants as K
 use Rattle.row.specs.declared.plan.FieldPlan.{FieldPlan}
 use Rattle.row.specs.declared.plan.Rest.{Rest}
 use Rattle.row.specs.declared.plan.Rest.the-variants as Left
 
 -- ---- a field
 
--- the cell at index i of a field of row r and column c. No cell of an array outside the heap is ever stored
-abbrev pub cellIn : Column → List ℕ → ℕ → ℕ → Field → ℕ → Cell
-cellIn column a r c (F.Items ty at n) i = cellOf r c i (itemAt column a ty at i)
-cellIn column a r c (F.Descriptor v) i = cellOf r c 0 v
-cellIn column a r c F.OutsideHeap i = cellOf r c 0 (D.Logical Logic.Unset)
+-- the value of an entry at place p: an item, a descriptor that is not followed, or an array outside the heap, of which no cell is ever stored
+abbrev pub entryValue : Column → List ℕ → FieldKind → VariableArrayTy → ℕ → DataValue
+entryValue column a K.Items ty p = item column ty a p
+entryValue column a K.Descriptor32 ty p = D.VariableLengthArray32 (word a p 4) (word a (p + 4) 4)
+entryValue column a K.Descriptor64 ty p = D.VariableLengthArray64 (word a p 8) (word a (p + 8) 8)
+entryValue column a K.OutsideHeap ty p = D.Bit 0
+
+-- the cell at index i of a field of row r and column c that lies from byte `at` on. A descriptor has the index 0 alone
+abbrev pub cellIn : Column → List ℕ → ℕ → ℕ → FieldKind → VariableArrayTy → ℕ → ℕ → Cell
+cellIn column a r c kind ty at i = cellOf r c i (entryValue column a kind ty (at + i * width ty))
 
 -- what is left of a field of this size after `skip` entries
-abbrev pub fieldFrom : ℕ → ℕ → Column → Field → ℕ → ℕ → FieldPlan
-fieldFrom r c column f size skip =
-    record { row = r; c = c; column = column; field = f; first = skip; n = size - skip; skip = skip - size }
+abbrev pub fieldFrom : ℕ → ℕ → Column → FieldKind → VariableArrayTy → ℕ → ℕ → ℕ → FieldPlan
+fieldFrom r c column kind ty at size skip =
+    record { row = r; c = c; column = column; kind = kind; ty = ty; at = at; first = skip; n = size - skip; skip = skip - size }
+
+-- the kind of a form's descriptor; items have none
+abbrev pub descriptorKind : TFormType → FieldKind
+descriptorKind (T.Items ty) = K.OutsideHeap
+descriptorKind (T.P ty) = K.Descriptor32
+descriptorKind (T.Q ty) = K.Descriptor64
+
+-- the plan of a field at place p; its descriptor, if it is one, is of this kind. The type matters at items alone
+abbrev pub planOf : ℕ → ℕ → Column → FieldKind → ℕ → ℕ → Field → FieldPlan
+planOf r c column kind p skip (F.Items ty at n) = fieldFrom r c column K.Items ty at n skip
+planOf r c column kind p skip (F.Descriptor v) = fieldFrom r c column kind L p 1 skip
+planOf r c column kind p skip F.OutsideHeap = fieldFrom r c column K.OutsideHeap L 0 1 skip
 
 -- the plan of the field of column c. A column that is not chosen has no entry, so its field is never looked at
 unfoldable pub fieldPlan : List ℕ → RowPlan → Column → ℕ → ℕ → FieldPlan
 fieldPlan a p column c skip =
-    let f = field a (p .start + column .start) column (p .heap) (p .theap) (p .end) in
-    cond (chosen (p .choice) c) (fieldFrom (p .row) c column f (sizeOf f) skip) (fieldFrom (p .row) c column F.OutsideHeap 0 skip)
+    let at = p .start + column .start in
+    cond (chosen (p .choice) c)
+    (planOf (p .row) c column (descriptorKind (column .form)) at skip (field a at column (p .heap) (p .theap) (p .end)))
+    (fieldFrom (p .row) c column K.OutsideHeap L 0 0 skip)
 
 -- a field that has an entry left is an array outside the heap
-abbrev pub outsideBy : Field → ℕ → Bool
-outsideBy (F.Items ty at n) k = false
-outsideBy (F.Descriptor v) k = false
-outsideBy F.OutsideHeap k = ltb 0 k
+abbrev pub outsideBy : FieldKind → ℕ → Bool
+outsideBy K.Items k = false
+outsideBy K.Descriptor32 k = false
+outsideBy K.Descriptor64 k = false
+outsideBy K.OutsideHeap k = ltb 0 k
 
 abbrev pub isOutside : FieldPlan → Bool
-isOutside p = outsideBy (p .field) (p .n)
+isOutside p = outsideBy (p .kind) (p .n)
 
 -- cell i of a field's plan
 abbrev pub plannedCell : List ℕ → FieldPlan → ℕ → Cell
-plannedCell a p i = cellIn (p .column) a (p .row) (p .c) (p .field) (p .first + i)
+plannedCell a p i = cellIn (p .column) a (p .row) (p .c) (p .kind) (p .ty) (p .at) (p .first + i)
 
--- its cells are entries of the field, which lies inside the data
+-- the place of cell i is a number of 64 bits
+abbrev pub PlaceFits : FieldPlan → ℕ → Type 0
+PlaceFits p i = p .at + (p .first + i) * width (p .ty) < 2 ^ 64
+
+-- so is that of each of its cells
 abbrev pub PlanOk : FieldPlan → Type 0
-PlanOk p = ((i : ℕ) → i < p .n → p .first + i < sizeOf (p .field)) × ItemsInside dataLimit (p .field)
+PlanOk p = (i : ℕ) → i < p .n → PlaceFits p i
 
 -- ---- the list
 

@@ -1,52 +1,115 @@
 // The loops that store a row's cells, by its plan.
 ghost use mathlib.Core.Path.{_≡_};
-ghost use Prim.Native.Nat.{_+_, _≤_, _<_};
+ghost use Prim.Native.Nat.{_+_, _≤_};
 ghost use lib.ListN.{length};
-ghost use Rattle.layout.specs.Layout.{dataLimit};
-ghost use Rattle.cell.specs.Field.{sizeOf, ItemsInside};
-ghost use Rattle.row.specs.Plan.{plannedCell, PlanOk, storedAt, filled, RowFits};
+ghost use Rattle.cell.specs.Item.{item};
+ghost use Rattle.row.specs.Plan.{entryValue, plannedCell, PlaceFits, PlanOk, storedAt, filled, RowFits};
 use super::plan;
+use super::plan::FieldKind;
 use super::plan::FieldPlan;
 use super::plan::RowPlan;
 use cell::Cell;
 use cell::DataValue;
-use cell::Field;
-use cell::Logical;
+use cell::floats;
+use cell::words;
 use layout::Column;
 use layout::TFIELDS_LIMIT;
+use tform::VariableArrayTy;
+
+// The value of the item at a place, as `cell::read_item` gives it. `entry` is its only caller, so that it is inlined there.
+fn item(area: &[u8], at: u64, ty: VariableArrayTy, column: Column) -> DataValue
+    ensures { λ r. ⌜ r ≡ item column ty (now (area .entry)) at ⌝ }
+{
+    match ty {
+        VariableArrayTy::L => {
+            let value = cell::read_logical(words::byte(area, at, 0));
+            DataValue::Logical(value)
+        }
+        VariableArrayTy::X => DataValue::Bit(words::byte(area, at, 0)),
+        VariableArrayTy::B => DataValue::UnsignedByte(words::byte(area, at, 0)),
+        VariableArrayTy::I => DataValue::Short(words::signed16(words::u16_at(area, at, 0))),
+        VariableArrayTy::J => DataValue::Integer(words::signed32(words::u32_at(area, at, 0))),
+        VariableArrayTy::K => DataValue::Long(words::signed64(words::u64_at(area, at, 0))),
+        VariableArrayTy::A => DataValue::Character(words::byte(area, at, 0)),
+        VariableArrayTy::E => {
+            let bits = words::u32_at(area, at, 0);
+            let value = floats::single(bits);
+            DataValue::Float { value, bits }
+        }
+        VariableArrayTy::D => {
+            let bits = words::u64_at(area, at, 0);
+            let value = floats::double(bits);
+            DataValue::Double { value, bits }
+        }
+        VariableArrayTy::C => {
+            let real_bits = words::u32_at(area, at, 0);
+            let imag_bits = words::u32_at(area, at, 4);
+            let real = floats::single(real_bits);
+            let imag = floats::single(imag_bits);
+            DataValue::ComplexFloat {
+                real,
+                real_bits,
+                imag,
+                imag_bits,
+            }
+        }
+        VariableArrayTy::M => {
+            let real_bits = words::u64_at(area, at, 0);
+            let imag_bits = words::u64_at(area, at, 8);
+            let real = floats::double(real_bits);
+            let imag = floats::double(imag_bits);
+            DataValue::ComplexDouble {
+                real,
+                real_bits,
+                imag,
+                imag_bits,
+            }
+        }
+    }
+}
+
+// The value of an entry of a field at a place.
+fn entry(area: &[u8], at: u64, kind: FieldKind, ty: VariableArrayTy, column: Column) -> DataValue
+    ensures { λ r. ⌜ r ≡ entryValue column (now (area .entry)) kind ty at ⌝ }
+{
+    match kind {
+        FieldKind::Items => item(area, at, ty, column),
+        FieldKind::Descriptor32 => {
+            let num_elems = words::u32_at(area, at, 0);
+            let offset_byte = words::u32_at(area, at, 4);
+            DataValue::VariableLengthArray32 {
+                num_elems,
+                offset_byte,
+            }
+        }
+        FieldKind::Descriptor64 => {
+            let num_elems = words::u64_at(area, at, 0);
+            let offset_byte = words::u64_at(area, at, 8);
+            DataValue::VariableLengthArray64 {
+                num_elems,
+                offset_byte,
+            }
+        }
+        // Never stored: a row read with an array outside the heap is refused.
+        FieldKind::OutsideHeap => DataValue::Bit(0),
+    }
+}
 
 // Cell i of the plan of a field. `fill_field` is its only caller, so that it is inlined there.
 fn planned_cell(area: &[u8], plan: FieldPlan, i: usize) -> Cell
-    requires { ⌜ (plan .first + i < sizeOf (plan .field)) × ItemsInside dataLimit (plan .field) ⌝ }
+    requires { ⌜ PlaceFits plan i ⌝ }
     ensures { λ r. ⌜ r ≡ plannedCell (now (area .entry)) plan i ⌝ }
 {
-    let field = plan.field;
+    let kind = plan.kind;
+    let ty = plan.ty;
     let column = plan.column;
-    match field {
-        Field::Items { ty, at, n: _ } => {
-            let idx = plan.first + i as u64;
-            let width = tform::item_width(tform::letter(ty)) as u64;
-            let value = cell::read_item(area, at + idx * width, ty, column);
-            Cell {
-                row: plan.row,
-                column: plan.c,
-                idx,
-                value,
-            }
-        }
-        Field::Descriptor(value) => Cell {
-            row: plan.row,
-            column: plan.c,
-            idx: 0,
-            value,
-        },
-        // Never stored: a row read with an array outside the heap is refused.
-        Field::OutsideHeap => Cell {
-            row: plan.row,
-            column: plan.c,
-            idx: 0,
-            value: DataValue::Logical(Logical::Unset),
-        },
+    let idx = plan.first + i as u64;
+    let value = entry(area, plan.at + idx * tform::width(ty), kind, ty, column);
+    Cell {
+        row: plan.row,
+        column: plan.c,
+        idx,
+        value,
     }
 }
 

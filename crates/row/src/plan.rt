@@ -6,12 +6,14 @@ ghost use Rattle.layout.specs.Layout.{naxis2Limit, layoutOk};
 ghost use Rattle.walk.specs.Plain.{rowEntries};
 ghost use Rattle.walk.specs.Walk.{stop, rest};
 ghost use Rattle.walk.specs.Step.{fits, stateOf};
-ghost use Rattle.row.specs.Plan.{fieldFrom, fieldPlan, isOutside, leftOf, planFor, noPlan, nextRow, restPlan, rowPlan};
+ghost use Rattle.row.specs.Plan.{fieldFrom, descriptorKind, planOf, fieldPlan, isOutside, leftOf, planFor, noPlan, nextRow, restPlan, rowPlan};
 use cell::Field;
 use layout::BinTable;
 use layout::Column;
 use layout::Refusal;
 use layout::TFIELDS_LIMIT;
+use tform::TFormType;
+use tform::VariableArrayTy;
 use walk::Answer;
 use walk::COUNT_STOP;
 use walk::Stepped;
@@ -31,12 +33,23 @@ pub struct RowPlan {
     pub stepped: Stepped,
 }
 
-// The plan of a field: n cells from the index `first` on. Of the later fields `skip` entries are still to be passed.
+// What the entries of a field are: items, a descriptor of 32-bit or of 64-bit numbers that is not followed, or an array outside the heap.
+pub enum FieldKind {
+    Items,
+    Descriptor32,
+    Descriptor64,
+    OutsideHeap,
+}
+
+// The plan of a field: n cells from the index `first` on, of items that lie from byte `at` on, or of a descriptor there. Of the later fields `skip`
+// entries are still to be passed.
 pub struct FieldPlan {
     pub row: u64,
     pub c: usize,
     pub column: Column,
-    pub field: Field,
+    pub kind: FieldKind,
+    pub ty: VariableArrayTy,
+    pub at: u64,
     pub first: u64,
     pub n: usize,
     pub skip: u64,
@@ -56,15 +69,26 @@ pub fn columns(layout: BinTable) -> [Column; TFIELDS_LIMIT]
 }
 
 // The cells of a field of this size that are left after the first `skip` entries.
-fn field_from(row: u64, c: usize, column: Column, field: Field, size: u64, skip: u64) -> FieldPlan
-    ensures { λ r. ⌜ r ≡ fieldFrom row c column field size skip ⌝ }
+fn field_from(
+    row: u64,
+    c: usize,
+    column: Column,
+    kind: FieldKind,
+    ty: VariableArrayTy,
+    at: u64,
+    size: u64,
+    skip: u64,
+) -> FieldPlan
+    ensures { λ r. ⌜ r ≡ fieldFrom row c column kind ty at size skip ⌝ }
 {
     if skip < size {
         return FieldPlan {
             row,
             c,
             column,
-            field,
+            kind,
+            ty,
+            at,
             first: skip,
             n: (size - skip) as usize,
             skip: 0,
@@ -74,10 +98,36 @@ fn field_from(row: u64, c: usize, column: Column, field: Field, size: u64, skip:
         row,
         c,
         column,
-        field,
+        kind,
+        ty,
+        at,
         first: skip,
         n: 0,
         skip: skip - size,
+    }
+}
+
+// The plan of a field that holds a descriptor of this kind at a place.
+fn descriptor_plan(
+    row: u64,
+    c: usize,
+    column: Column,
+    kind: FieldKind,
+    at: u64,
+    field: Field,
+    skip: u64,
+) -> FieldPlan
+    ensures { λ r. ⌜ r ≡ planOf row c column kind at skip field ⌝ }
+{
+    match field {
+        Field::Items { ty, at: start, n } => {
+            field_from(row, c, column, FieldKind::Items, ty, start, n, skip)
+        }
+        Field::Descriptor(_) => field_from(row, c, column, kind, VariableArrayTy::L, at, 1, skip),
+        Field::OutsideHeap => {
+            let outside = FieldKind::OutsideHeap;
+            field_from(row, c, column, outside, VariableArrayTy::L, 0, 1, skip)
+        }
     }
 }
 
@@ -88,23 +138,66 @@ pub fn field_plan(area: &[u8], plan: RowPlan, column: Column, c: usize, skip: u6
 {
     if table::chosen(plan.choice, c) {
         let at = plan.start + column.start;
-        let field = cell::read_field(area, at, column, plan.heap, plan.theap, plan.end);
-        let size = cell::field_size(field);
-        return field_from(plan.row, c, column, field, size, skip);
+        let form = column.form;
+        match form {
+            TFormType::Items(ty) => {
+                let size = tform::item_count(ty, column.count as u64);
+                return field_from(plan.row, c, column, FieldKind::Items, ty, at, size, skip);
+            }
+            TFormType::P(_) => {
+                let kind = FieldKind::Descriptor32;
+                let field = cell::read_field(area, at, column, plan.heap, plan.theap, plan.end);
+                return descriptor_plan(plan.row, c, column, kind, at, field, skip);
+            }
+            TFormType::Q(_) => {
+                let kind = FieldKind::Descriptor64;
+                let field = cell::read_field(area, at, column, plan.heap, plan.theap, plan.end);
+                return descriptor_plan(plan.row, c, column, kind, at, field, skip);
+            }
+        }
     }
     // A column that is not chosen has no entry, so its field is never looked at.
-    field_from(plan.row, c, column, Field::OutsideHeap, 0, skip)
+    let unread = FieldKind::OutsideHeap;
+    field_from(plan.row, c, column, unread, VariableArrayTy::L, 0, 0, skip)
+}
+
+// The kind of a form's descriptor; a form of items has none.
+fn descriptor_kind(form: TFormType) -> FieldKind
+    ensures { λ r. ⌜ r ≡ descriptorKind form ⌝ }
+{
+    match form {
+        TFormType::Items(_) => FieldKind::OutsideHeap,
+        TFormType::P(_) => FieldKind::Descriptor32,
+        TFormType::Q(_) => FieldKind::Descriptor64,
+    }
+}
+
+// The same plan for `rest_of`. So `field_plan` has one caller, the loop that stores, and is compiled into it.
+fn judged_plan(area: &[u8], plan: RowPlan, column: Column, c: usize, skip: u64) -> FieldPlan
+    requires { ⌜ plan .start + column .start < 2 ^ 64 ⌝ }
+    ensures { λ r. ⌜ r ≡ fieldPlan (now (area .entry)) plan column c skip ⌝ }
+{
+    if table::chosen(plan.choice, c) {
+        let at = plan.start + column.start;
+        let form = column.form;
+        let kind = descriptor_kind(form);
+        let field = cell::read_field(area, at, column, plan.heap, plan.theap, plan.end);
+        return descriptor_plan(plan.row, c, column, kind, at, field, skip);
+    }
+    let none = FieldKind::OutsideHeap;
+    field_from(plan.row, c, column, none, VariableArrayTy::L, 0, 0, skip)
 }
 
 // Whether a field that has an entry left is an array outside the heap.
 fn is_outside(plan: FieldPlan) -> bool
     ensures { λ r. ⌜ r ≡ isOutside plan ⌝ }
 {
-    let field = plan.field;
-    match field {
-        Field::Items { ty: _, at: _, n: _ } => false,
-        Field::Descriptor(_) => false,
-        Field::OutsideHeap => 0 < plan.n,
+    let kind = plan.kind;
+    match kind {
+        FieldKind::Items => false,
+        FieldKind::Descriptor32 => false,
+        FieldKind::Descriptor64 => false,
+        FieldKind::OutsideHeap => 0 < plan.n,
     }
 }
 
@@ -160,7 +253,7 @@ fn rest_of(layout: BinTable, area: &[u8], cursor: TableData) -> Rest
     let mut c: usize = 0;
     while c < layout.tfields {
         let column = layout.columns[c];
-        let planned = field_plan(area, plan, column, c, skip);
+        let planned = judged_plan(area, plan, column, c, skip);
         if is_outside(planned) {
             return Rest::OutsideHeap { column: c };
         }
@@ -221,8 +314,8 @@ fn rest_plan(layout: BinTable, cursor: TableData, rest: Rest, room: usize) -> Ro
     }
 }
 
-// The plan of a row read into a list of `room` cells.
-pub fn row_plan(layout: BinTable, area: &[u8], cursor: TableData, room: usize) -> RowPlan
+// The plan of a row read, whatever the row, the place and the cursor are.
+fn any_plan(layout: BinTable, area: &[u8], cursor: TableData, room: usize) -> RowPlan
     ensures { λ r. ⌜ r ≡ rowPlan layout (now (area .entry)) cursor room ⌝ }
 {
     if table::belongs(layout, area, cursor) {
@@ -233,4 +326,44 @@ pub fn row_plan(layout: BinTable, area: &[u8], cursor: TableData, room: usize) -
         return no_plan(cursor, Answer::End);
     }
     no_plan(cursor, Answer::Refused(Refusal::Mismatch))
+}
+
+// The plan of a row read into a list of `room` cells. One pass over the columns plans a row of items from its start; all else is left to
+// `any_plan`.
+pub fn row_plan(layout: BinTable, area: &[u8], cursor: TableData, room: usize) -> RowPlan
+    ensures { λ r. ⌜ r ≡ rowPlan layout (now (area .entry)) cursor room ⌝ }
+{
+    if cursor.passed != 0 {
+        return any_plan(layout, area, cursor, room);
+    }
+    if !table::pass::ready(
+        layout.naxis1,
+        layout.naxis2,
+        layout.pcount,
+        layout.theap,
+        layout.tfields,
+        area.len() as u64,
+        cursor.choice,
+        cursor.row,
+    ) {
+        return any_plan(layout, area, cursor, room);
+    }
+    let mut at: u64 = 0;
+    let mut cells: u64 = 0;
+    let mut c: usize = 0;
+    while c < layout.tfields {
+        let column = layout.columns[c];
+        let is_chosen = table::chosen(cursor.choice, c);
+        if !table::pass::plain_in_order(column, at, is_chosen) {
+            return any_plan(layout, area, cursor, room);
+        }
+        let form = column.form;
+        at += tform::field_bytes(form, column.count);
+        cells += table::pass::item_cells(column, is_chosen);
+        c += 1;
+    }
+    if at == layout.naxis1 {
+        return rest_plan(layout, cursor, Rest::Cells(cells), room);
+    }
+    any_plan(layout, area, cursor, room)
 }

@@ -1,1 +1,2 @@
 pub mod NextPlace
+pub mod Scan

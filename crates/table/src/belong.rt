@@ -21,7 +21,7 @@ pub fn fits(layout: BinTable, area: &[u8]) -> bool
 }
 
 // The choice is one or more of the columns.
-fn choice_ok(tfields: usize, choice: u64) -> bool
+pub fn choice_ok(tfields: usize, choice: u64) -> bool
     requires { ⌜ tfields ≤ 64 ⌝ }
     ensures { λ r. ⌜ r ≡ (ltb 0 choice && ltb choice (2 ^ tfields)) ⌝ }
 {

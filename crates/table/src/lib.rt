@@ -1,7 +1,9 @@
 // Reading a table by a cursor: opening, cell reads and seeks. The cursor goes in by value and comes back beside the answer.
 mod belong;
 mod choice;
+pub mod pass;
 mod rows;
+mod scan;
 mod step;
 
 ghost use mathlib.Core.Path.{_≡_};
@@ -12,6 +14,7 @@ ghost use Rattle.walk.specs.Step.{allColumns, listed, belongs, openWith, openin
 use layout::BinTable;
 use layout::Refusal;
 use layout::TFIELDS_LIMIT;
+use scan::Scan;
 use walk::Answer;
 use walk::Opened;
 use walk::Stepped;
@@ -44,13 +47,64 @@ pub fn select_fields(layout: BinTable, area: &[u8], cols: &[usize], heap: bool) 
 pub fn next(layout: BinTable, area: &[u8], cursor: TableData) -> Stepped
     ensures { λ r. ⌜ resultOf r [] ≡ cursorStep layout (now (area .entry)) cursor readCell ⌝ }
 {
-    if belong::belongs(layout, area, cursor) {
-        return step::read_cell(layout, area, cursor);
+    // One pass over the columns gives the entry of the cursor's row. Where it gives none, the calls of `step` tell why.
+    if pass::ready(
+        layout.naxis1,
+        layout.naxis2,
+        layout.pcount,
+        layout.theap,
+        layout.tfields,
+        area.len() as u64,
+        cursor.choice,
+        cursor.row,
+    ) {
+        let start = cursor.row * layout.naxis1;
+        let end = layout.naxis1 * layout.naxis2 + layout.pcount;
+        let mut scan = Scan {
+            at: 0,
+            size: 0,
+            found: false,
+            left: cursor.passed,
+            column: 0,
+        };
+        let mut c: usize = 0;
+        while c < layout.tfields {
+            let column = layout.columns[c];
+            if !pass::in_order(column, scan.at) {
+                return step::next(layout, area, cursor);
+            }
+            let is_chosen = choice::chosen(cursor.choice, c);
+            let size = rows::column_size(
+                area,
+                start + scan.at,
+                column,
+                is_chosen,
+                cursor.heap,
+                layout.theap,
+                end,
+            );
+            scan = scan::after(scan, column, c, size);
+            c += 1;
+        }
+        if scan.found {
+            if scan.at == layout.naxis1 {
+                let k = scan.column;
+                let column = layout.columns[k];
+                let entry = rows::entry_of(
+                    area,
+                    start + column.start,
+                    column,
+                    cursor,
+                    k,
+                    scan.left,
+                    layout.theap,
+                    end,
+                );
+                return step::read_entry(cursor, cursor.row, cursor.passed, scan.size, entry);
+            }
+        }
     }
-    Stepped {
-        cursor,
-        answer: Answer::Refused(Refusal::Mismatch),
-    }
+    step::next(layout, area, cursor)
 }
 
 // The seek: to the start of a row, or refusal 12 if there is no such row. Refused with 10 first, as `next` is.

@@ -15,7 +15,9 @@ use cell::Cell;
 use cell::Field;
 use layout::BinTable;
 use layout::Column;
+use tform::TFormType;
 use walk::Entry;
+use walk::TableData;
 
 // The place of the next entry, and how many entries its row has.
 pub enum NextPlace {
@@ -23,8 +25,28 @@ pub enum NextPlace {
     Nothing,
 }
 
+// How many entries the array of a descriptor at a place has, or the descriptor itself.
+fn array_entries(area: &[u8], at: u64, column: Column, heap: bool, theap: u64, end: u64) -> u64
+    ensures { λ r. ⌜ r ≡ sizeOf (field (now (area .entry)) at column heap theap end) ⌝ }
+{
+    let field = cell::read_field(area, at, column, heap, theap, end);
+    cell::field_size(field)
+}
+
+// How many entries a field at a place has. Only a descriptor has to be read for it.
+fn field_entries(area: &[u8], at: u64, column: Column, heap: bool, theap: u64, end: u64) -> u64
+    ensures { λ r. ⌜ r ≡ sizeOf (field (now (area .entry)) at column heap theap end) ⌝ }
+{
+    let form = column.form;
+    match form {
+        TFormType::Items(ty) => tform::item_count(ty, column.count as u64),
+        TFormType::P(_) => array_entries(area, at, column, heap, theap, end),
+        TFormType::Q(_) => array_entries(area, at, column, heap, theap, end),
+    }
+}
+
 // How many entries a field at a place has: none if its column is not chosen.
-fn column_size(
+pub fn column_size(
     area: &[u8],
     at: u64,
     column: Column,
@@ -36,8 +58,25 @@ fn column_size(
     ensures { λ r. ⌜ r ≡ cond «is_chosen» (sizeOf (field (now (area .entry)) at column heap theap end)) 0 ⌝ }
 {
     if is_chosen {
-        let field = cell::read_field(area, at, column, heap, theap, end);
-        return cell::field_size(field);
+        return field_entries(area, at, column, heap, theap, end);
+    }
+    0
+}
+
+// The same for the loops of the long way. So `column_size` has one caller, the pass of `next`, and is compiled into it.
+fn any_size(
+    area: &[u8],
+    at: u64,
+    column: Column,
+    is_chosen: bool,
+    heap: bool,
+    theap: u64,
+    end: u64,
+) -> u64
+    ensures { λ r. ⌜ r ≡ cond «is_chosen» (sizeOf (field (now (area .entry)) at column heap theap end)) 0 ⌝ }
+{
+    if is_chosen {
+        return array_entries(area, at, column, heap, theap, end);
     }
     0
 }
@@ -55,7 +94,7 @@ pub fn row_size(layout: BinTable, area: &[u8], choice: u64, heap: bool, row: u64
     while c < layout.tfields {
         let column = layout.columns[c];
         let is_chosen = choice::chosen(choice, c);
-        let size = column_size(
+        let size = any_size(
             area,
             start + column.start,
             column,
@@ -77,7 +116,7 @@ fn entry_in(area: &[u8], column: Column, row: u64, c: usize, field: Field, idx: 
 {
     match field {
         Field::Items { ty, at, n: _ } => {
-            let width = tform::item_width(tform::letter(ty)) as u64;
+            let width = tform::width(ty);
             let value = cell::read_item(area, at + idx * width, ty, column);
             Entry::Cell(Cell {
                 row,
@@ -96,6 +135,24 @@ fn entry_in(area: &[u8], column: Column, row: u64, c: usize, field: Field, idx: 
     }
 }
 
+// The entry at an index of the field of column c, which lies at a place.
+pub fn entry_of(
+    area: &[u8],
+    at: u64,
+    column: Column,
+    cursor: TableData,
+    c: usize,
+    idx: u64,
+    theap: u64,
+    end: u64,
+) -> Entry
+    requires { ⌜ (idx < sizeOf (field (now area) at column (cursor .heap) theap end)) × ItemsInside dataLimit (field (now area) at column (cursor .heap) theap end) ⌝ }
+    ensures { λ r. ⌜ r ≡ entryIn column (now (area .entry)) (cursor .row) c (field (now (area .entry)) at column (cursor .heap) theap end) idx ⌝ }
+{
+    let field = cell::read_field(area, at, column, cursor.heap, theap, end);
+    entry_in(area, column, cursor.row, c, field, idx)
+}
+
 // The entry at an index of a row.
 pub fn entry_at(layout: BinTable, area: &[u8], choice: u64, heap: bool, row: u64, k: u64) -> Entry
     requires { ⌜ (fits layout (now area) ≡ true) × (row < layout .naxis2) × (k < length (rowEntries layout (now area) choice heap row)) ⌝ }
@@ -110,7 +167,7 @@ pub fn entry_at(layout: BinTable, area: &[u8], choice: u64, heap: bool, row: u64
         let column = layout.columns[c];
         let at = start + column.start;
         let is_chosen = choice::chosen(choice, c);
-        let size = column_size(area, at, column, is_chosen, heap, layout.theap, end);
+        let size = any_size(area, at, column, is_chosen, heap, layout.theap, end);
         if left < size {
             let field = cell::read_field(area, at, column, heap, layout.theap, end);
             return entry_in(area, column, row, c, field, left);

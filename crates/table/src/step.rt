@@ -6,6 +6,7 @@ ghost use Prim.Native.Nat.{_+_, _<_, min};
 ghost use Rattle.layout.specs.Layout.{naxis2Limit};
 ghost use Rattle.walk.specs.Walk.{readCell, stop, placed, grown, pass, entryOutcome, seekOutcome};
 ghost use Rattle.walk.specs.Step.{belongs, stateOf, cursorAt, withCursor, cursorStep, resultOf};
+use super::belong;
 use super::rows;
 use super::rows::NextPlace;
 use layout::BinTable;
@@ -61,7 +62,7 @@ fn pass(cursor: TableData, row: u64, passed: u64, size: u64) -> TableData
 }
 
 // A cell read at an entry.
-fn read_entry(cursor: TableData, row: u64, passed: u64, size: u64, entry: Entry) -> Stepped
+pub fn read_entry(cursor: TableData, row: u64, passed: u64, size: u64, entry: Entry) -> Stepped
     requires { ⌜ (row < naxis2Limit) × (passed < size) ⌝ }
     ensures { λ r. ⌜ resultOf r [] ≡ withCursor (cursor .choice) (cursor .heap) (entryOutcome (stateOf cursor) size row passed entry) ⌝ }
 {
@@ -78,7 +79,7 @@ fn read_entry(cursor: TableData, row: u64, passed: u64, size: u64, entry: Entry)
 }
 
 // A cell read of a cursor that belongs.
-pub fn read_cell(layout: BinTable, area: &[u8], cursor: TableData) -> Stepped
+fn read_cell(layout: BinTable, area: &[u8], cursor: TableData) -> Stepped
     requires { ⌜ belongs layout (now area) cursor ≡ true ⌝ }
     ensures { λ r. ⌜ resultOf r [] ≡ cursorStep layout (now (area .entry)) cursor readCell ⌝ }
 {
@@ -99,6 +100,19 @@ pub fn read_cell(layout: BinTable, area: &[u8], cursor: TableData) -> Stepped
             cursor: placed(cursor, layout.naxis2, 0),
             answer: Answer::End,
         },
+    }
+}
+
+// A cell read: refused with 10 if the cursor does not belong.
+pub fn next(layout: BinTable, area: &[u8], cursor: TableData) -> Stepped
+    ensures { λ r. ⌜ resultOf r [] ≡ cursorStep layout (now (area .entry)) cursor readCell ⌝ }
+{
+    if belong::belongs(layout, area, cursor) {
+        return read_cell(layout, area, cursor);
+    }
+    Stepped {
+        cursor,
+        answer: Answer::Refused(Refusal::Mismatch),
     }
 }
 

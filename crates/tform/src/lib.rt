@@ -97,6 +97,25 @@ pub fn letter(ty: VariableArrayTy) -> u8
     }
 }
 
+// The bytes of one item by cases, as the table has them: the calls that read cells go by it, since a look-up copies the table.
+pub fn width(ty: VariableArrayTy) -> u64
+    ensures { λ r. ⌜ r ≡ letterWidth (letter ty) ⌝ }
+{
+    match ty {
+        VariableArrayTy::L => 1,
+        VariableArrayTy::X => 1,
+        VariableArrayTy::B => 1,
+        VariableArrayTy::I => 2,
+        VariableArrayTy::J => 4,
+        VariableArrayTy::K => 8,
+        VariableArrayTy::A => 1,
+        VariableArrayTy::E => 4,
+        VariableArrayTy::D => 8,
+        VariableArrayTy::C => 8,
+        VariableArrayTy::M => 16,
+    }
+}
+
 // The letter of a form.
 pub fn form_letter(form: TFormType) -> u8
     ensures { λ r. ⌜ r ≡ formLetter form ⌝ }
@@ -143,6 +162,17 @@ pub fn num_bytes_field(form: TFormType, count: u32) -> u64
     ensures { λ r. ⌜ r ≡ fieldBytes form count ⌝ }
 {
     field_items(form, count) * item_width(form_letter(form)) as u64
+}
+
+// The bytes of a field in a row, by cases.
+pub fn field_bytes(form: TFormType, count: u32) -> u64
+    ensures { λ r. ⌜ r ≡ fieldBytes form count ⌝ }
+{
+    match form {
+        TFormType::Items(ty) => item_count(ty, count as u64) * width(ty),
+        TFormType::P(_) => 8,
+        TFormType::Q(_) => 16,
+    }
 }
 
 // Whether a count is within its limit.

@@ -1,18 +1,11 @@
 -- `array` meets its contract: the room after the offset, by a division, says whether the array ends past the heap.
 -- Assumes nothing.
-use mathlib.Core.Path.{_≡_, _∙_, ap}
 use native.Mathlib.Omega.{arith}
 use borrow.Author.Needs.{needs}
-use Rattle.tform.specs.Width.{letterWidth}
-use Rattle.cell.specs.Item.{width}
 use Rattle.cell.proofs.Widths.{width-pos}
 use Rattle.cell.proofs.Arrays.{array-none, array-sound, array-outside, too-many, enough}
 use Rattle.cell.proofs.array.Statement.{statement}
 use Rattle.cell.proofs.array.Tie as tie
-
--- the width that the code has is that of the type
-wide : (c : tie.After-item-width) → c .item-width .result ≡ width (c .before .before .before .before .before .before .args .ty)
-wide c = c .item-width .ensures ∙ ap letterWidth (c .before .letter .ensures)
 
 returns : tie.Need-returns
 returns c = array-none _ _ _ _ _ (c .if1 .taken)
@@ -30,38 +23,32 @@ returns-3 c =
 item-count-requires : tie.Need-item-count-requires
 item-count-requires c κs = search needs
 
-letter-requires : tie.Need-letter-requires
-letter-requires c κs = search needs
-
-item-width-requires : tie.Need-item-width-requires
-item-width-requires c κs = search needs
-
-cast-width : tie.Need-cast-width
-cast-width c = search needs
+width-requires : tie.Need-width-requires
+width-requires c κs = search needs
 
 sub-if4 : tie.Need-sub-if4
 sub-if4 c = search needs
 
 div-if4 : tie.Need-div-if4
-div-if4 c = omega (arith, wide c, width-pos (c .before .before .before .before .before .before .args .ty))
+div-if4 c = omega (arith, c .width .ensures, width-pos (c .before .before .before .before .before .args .ty))
 
 returns-4 : tie.Need-returns-4
 returns-4 c =
-    let a = c .before .before .before .before .before .before .before .args in
-    array-outside (a .theap) (a .end) (a .ty) (a .num-elems) (a .offset-byte) (c .before .before .before .before .before .before .if1 .left)
+    let a = c .before .before .before .before .before .before .args in
+    array-outside (a .theap) (a .end) (a .ty) (a .num-elems) (a .offset-byte) (c .before .before .before .before .before .if1 .left)
     (too-many (a .theap) (a .end) (a .ty) (a .num-elems) (a .offset-byte)
-    (simp (wide (c .before), c .before .before .before .item-count .ensures) at (c .if4 .taken)))
+    (simp (c .before .width .ensures, c .before .before .item-count .ensures) at (c .if4 .taken)))
 
 add-t9 : tie.Need-add-t9
 add-t9 c = search needs
 
 returns-5 : tie.Need-returns-5
 returns-5 c =
-    let a = c .before .before .before .before .before .before .before .args in
-    rw (c .before .before .before .item-count .ensures)
-    (array-sound (a .theap) (a .end) (a .ty) (a .num-elems) (a .offset-byte) (c .before .before .before .before .before .before .if1 .left)
-    (enough (a .theap) (a .end) (a .ty) (a .num-elems) (a .offset-byte) (c .before .before .before .before .before .if2 .left)
-    (c .before .before .before .before .if3 .left) (simp (wide (c .before), c .before .before .before .item-count .ensures) at (c .if4 .left))))
+    let a = c .before .before .before .before .before .before .args in
+    rw (c .before .before .item-count .ensures)
+    (array-sound (a .theap) (a .end) (a .ty) (a .num-elems) (a .offset-byte) (c .before .before .before .before .before .if1 .left)
+    (enough (a .theap) (a .end) (a .ty) (a .num-elems) (a .offset-byte) (c .before .before .before .before .if2 .left)
+    (c .before .before .before .if3 .left) (simp (c .before .width .ensures, c .before .before .item-count .ensures) at (c .if4 .left))))
 
 pub array-spec : {M : Type 1} → statement M
 array-spec =
@@ -71,9 +58,7 @@ array-spec =
     returns-2
     returns-3
     item-count-requires
-    letter-requires
-    item-width-requires
-    cast-width
+    width-requires
     sub-if4
     div-if4
     returns-4

@@ -1,23 +1,9 @@
 -- `read_item` meets its contract: one case for each type.
 -- Assumes nothing.
-use mathlib.Core.Path.{_≡_, _∙_, sym, ap}
-use lib.Ieee.{binary32, binary64}
-use mir.Syntax.{w16, w32, w64}
-use mir.Val.{toZ}
-use mir.ValLaws.{toZ-ofZ}
 use borrow.Author.Needs.{needs}
-use Rattle.tform.specs.declared.VariableArrayTy.{VariableArrayTy}
-use Rattle.cell.specs.declared.DataValue.the-variants as D
-use Rattle.cell.specs.Item.{logical, item}
-use Rattle.cell.proofs.Numbers.{word-one, word-here}
-use Rattle.cell.proofs.Values.{one, two}
+use Rattle.cell.proofs.Items.{logical-item, bit-item, byte-item, character-item, short-item, integer-item, long-item, float-item, double-item, complex-float-item, complex-double-item}
 use Rattle.cell.proofs.read_item.Statement.{statement}
 use Rattle.cell.proofs.read_item.Tie as tie
-
--- what the contract promises, in an arm that knows the type
-whole : (c : tie.Start) (t : VariableArrayTy) → c .args .ty ≡ t
-    → item (c .args .column) t (c .args .area .now) (c .args .at) ≡ item (c .args .column) (c .args .ty) (c .args .area .now) (c .args .at)
-whole c t e = sym (ap (λ (s : VariableArrayTy). item (c .args .column) s (c .args .area .now) (c .args .at)) e)
 
 enum-told : tie.Need-enum-told
 enum-told c = search needs
@@ -122,72 +108,41 @@ double-requires-3 : tie.Need-double-requires-3
 double-requires-3 c κs = search needs
 
 returns : tie.Need-returns
-unfolding item
-returns c =
-    ap D.Logical (c .read-logical .ensures ∙ ap logical (word-one _ _ (c .before .byte .ensures)))
-    ∙ whole (c .before .before .before .before .before) _ (c .before .before .enum-told .given .1)
+returns c = logical-item _ _ _ (c .read-logical .ensures) (c .before .byte .ensures) (c .before .before .enum-told .given .1)
 
 returns-2 : tie.Need-returns-2
-unfolding item
-returns-2 c =
-    ap D.Bit (word-one _ _ (c .byte2 .ensures))
-    ∙ whole (c .before .before .before .before) _ (c .before .enum-told2 .given .1)
+returns-2 c = bit-item _ _ _ (c .byte2 .ensures) (c .before .enum-told2 .given .1)
 
 returns-3 : tie.Need-returns-3
-unfolding item
-returns-3 c =
-    ap D.UnsignedByte (word-one _ _ (c .byte3 .ensures))
-    ∙ whole (c .before .before .before .before) _ (c .before .enum-told3 .given .1)
+returns-3 c = byte-item _ _ _ (c .byte3 .ensures) (c .before .enum-told3 .given .1)
 
 returns-4 : tie.Need-returns-4
-unfolding item
-returns-4 c =
-    ap D.Short (toZ-ofZ w16 _ (record { sfits = c .signed16 .ok }) ∙ c .signed16 .ensures ∙ ap (toZ w16) (word-here _ _ 2 (c .before .u16-at .ensures)))
-    ∙ whole (c .before .before .before .before .before) _ (c .before .before .enum-told4 .given .1)
+returns-4 c = short-item _ _ _ (record { sfits = c .signed16 .ok }) (c .signed16 .ensures) (c .before .u16-at .ensures) (c .before .before .enum-told4 .given .1)
 
 returns-5 : tie.Need-returns-5
-unfolding item
-returns-5 c =
-    ap D.Integer (toZ-ofZ w32 _ (record { sfits = c .signed32 .ok }) ∙ c .signed32 .ensures ∙ ap (toZ w32) (word-here _ _ 4 (c .before .u32-at .ensures)))
-    ∙ whole (c .before .before .before .before .before) _ (c .before .before .enum-told5 .given .1)
+returns-5 c = integer-item _ _ _ (record { sfits = c .signed32 .ok }) (c .signed32 .ensures) (c .before .u32-at .ensures) (c .before .before .enum-told5 .given .1)
 
 returns-6 : tie.Need-returns-6
-unfolding item
-returns-6 c =
-    ap D.Long (toZ-ofZ w64 _ (record { sfits = c .signed64 .ok }) ∙ c .signed64 .ensures ∙ ap (toZ w64) (word-here _ _ 8 (c .before .u64-at .ensures)))
-    ∙ whole (c .before .before .before .before .before) _ (c .before .before .enum-told6 .given .1)
+returns-6 c = long-item _ _ _ (record { sfits = c .signed64 .ok }) (c .signed64 .ensures) (c .before .u64-at .ensures) (c .before .before .enum-told6 .given .1)
 
 returns-7 : tie.Need-returns-7
-unfolding item
-returns-7 c =
-    ap D.Character (word-one _ _ (c .byte4 .ensures))
-    ∙ whole (c .before .before .before .before) _ (c .before .enum-told7 .given .1)
+returns-7 c = character-item _ _ _ (c .byte4 .ensures) (c .before .enum-told7 .given .1)
 
 returns-8 : tie.Need-returns-8
-unfolding item
-returns-8 c =
-    one binary32 D.Float (c .single .ensures) (word-here _ _ 4 (c .before .u32-at2 .ensures))
-    ∙ whole (c .before .before .before .before .before) _ (c .before .before .enum-told8 .given .1)
+returns-8 c = float-item _ _ _ (c .single .ensures) (c .before .u32-at2 .ensures) (c .before .before .enum-told8 .given .1)
 
 returns-9 : tie.Need-returns-9
-unfolding item
-returns-9 c =
-    one binary64 D.Double (c .double .ensures) (word-here _ _ 8 (c .before .u64-at2 .ensures))
-    ∙ whole (c .before .before .before .before .before) _ (c .before .before .enum-told9 .given .1)
+returns-9 c = double-item _ _ _ (c .double .ensures) (c .before .u64-at2 .ensures) (c .before .before .enum-told9 .given .1)
 
 returns-10 : tie.Need-returns-10
-unfolding item
 returns-10 c =
-    two binary32 D.ComplexFloat (c .before .single2 .ensures) (word-here _ _ 4 (c .before .before .before .u32-at3 .ensures))
-    (c .single3 .ensures) (c .before .before .u32-at4 .ensures)
-    ∙ whole (c .before .before .before .before .before .before .before) _ (c .before .before .before .before .enum-told10 .given .1)
+    complex-float-item _ _ _ (c .before .single2 .ensures) (c .before .before .before .u32-at3 .ensures) (c .single3 .ensures)
+    (c .before .before .u32-at4 .ensures) (c .before .before .before .before .enum-told10 .given .1)
 
 returns-11 : tie.Need-returns-11
-unfolding item
 returns-11 c =
-    two binary64 D.ComplexDouble (c .before .double2 .ensures) (word-here _ _ 8 (c .before .before .before .u64-at3 .ensures))
-    (c .double3 .ensures) (c .before .before .u64-at4 .ensures)
-    ∙ whole (c .before .before .before .before .before .before .before) _ (c .before .before .before .before .enum-told11 .given .1)
+    complex-double-item _ _ _ (c .before .double2 .ensures) (c .before .before .before .u64-at3 .ensures) (c .double3 .ensures)
+    (c .before .before .u64-at4 .ensures) (c .before .before .before .before .enum-told11 .given .1)
 
 pub read-item-spec : {M : Type 1} → statement M
 read-item-spec =

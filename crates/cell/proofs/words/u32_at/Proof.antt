@@ -1,83 +1,40 @@
--- `u32_at` meets its contract: four bytes, the highest first.
+-- `u32_at` meets its contract: inside the area the number of its four bytes, else the upper four of eight.
 -- Assumes nothing.
+use native.Mathlib.Omega.{arith}
 use borrow.Author.Needs.{needs}
-use Rattle.cell.proofs.Numbers.{word-four}
+use Rattle.cell.proofs.Numbers.{upper-four}
 use Rattle.cell.proofs.words.u32_at.Statement.{statement}
 use Rattle.cell.proofs.words.u32_at.Tie as tie
 
-byte-requires : tie.Need-byte-requires
-byte-requires c κs = search needs
+add-size : tie.Need-add-size
+add-size c = search needs
+
+add-u32-inside : tie.Need-add-u32-inside
+add-u32-inside c = search needs
+
+u32-inside-requires : tie.Need-u32-inside-requires
+u32-inside-requires c κs = search needs
+
+returns : tie.Need-returns
+returns c = search needs
+
+u64-by-bytes-requires : tie.Need-u64-by-bytes-requires
+u64-by-bytes-requires c κs = search needs
 
 cast-result : tie.Need-cast-result
 cast-result c = search needs
 
-mul-result : tie.Need-mul-result
-mul-result c = search needs
-
-add-byte : tie.Need-add-byte
-add-byte c = search needs
-
-byte-requires-2 : tie.Need-byte-requires-2
-byte-requires-2 c κs = search needs
-
-cast-result-2 : tie.Need-cast-result-2
-cast-result-2 c = search needs
-
-mul-result-2 : tie.Need-mul-result-2
-mul-result-2 c = search needs
-
-add-result : tie.Need-add-result
-add-result c = search needs
-
-add-byte-2 : tie.Need-add-byte-2
-add-byte-2 c = search needs
-
-byte-requires-3 : tie.Need-byte-requires-3
-byte-requires-3 c κs = search needs
-
-cast-result-3 : tie.Need-cast-result-3
-cast-result-3 c = search needs
-
-mul-result-3 : tie.Need-mul-result-3
-mul-result-3 c = search needs
-
-add-result-2 : tie.Need-add-result-2
-add-result-2 c = search needs
-
-add-byte-3 : tie.Need-add-byte-3
-add-byte-3 c = search needs
-
-byte-requires-4 : tie.Need-byte-requires-4
-byte-requires-4 c κs = search needs
-
-cast-result-4 : tie.Need-cast-result-4
-cast-result-4 c = search needs
-
-add-result-3 : tie.Need-add-result-3
-add-result-3 c = search needs
-
-returns : tie.Need-returns
-returns c = word-four _ _ _ (c .before .before .before .byte .ensures) (c .before .before .byte2 .ensures) (c .before .byte3 .ensures) (c .byte4 .ensures)
+returns-2 : tie.Need-returns-2
+returns-2 c = upper-four _ _ (λ i. omega (arith, c .before .before .shared-slice-known .given i)) (c .u64-by-bytes .ensures)
 
 pub u32-at-spec : {M : Type 1} → statement M
 u32-at-spec =
     tie.close
     (tie.spec
-    byte-requires
+    add-size
+    add-u32-inside
+    u32-inside-requires
+    returns
+    u64-by-bytes-requires
     cast-result
-    mul-result
-    add-byte
-    byte-requires-2
-    cast-result-2
-    mul-result-2
-    add-result
-    add-byte-2
-    byte-requires-3
-    cast-result-3
-    mul-result-3
-    add-result-2
-    add-byte-3
-    byte-requires-4
-    cast-result-4
-    add-result-3
-    returns)
+    returns-2)

@@ -29,11 +29,11 @@ inside : (c : tie.In-loop Inv-loop μ-loop) → c .before .loop .i < length (col
 inside c = omega (arith, columns (c .before .before), c .loop-test .taken)
 
 -- the column's count and bytes
-count : (c : tie.After-num-bytes-field Inv-loop μ-loop) → countOk ((getD (c .before .before .before .before .before .before .before .before .args .t1 .columns) (c .before .before .before .before .before .before .before .loop .i) noColumn) .form) ((getD (c .before .before .before .before .before .before .before .before .args .t1 .columns) (c .before .before .before .before .before .before .before .loop .i) noColumn) .count) ≡ true
+count : (c : tie.After-field-bytes Inv-loop μ-loop) → countOk ((getD (c .before .before .before .before .before .before .before .before .args .t1 .columns) (c .before .before .before .before .before .before .before .loop .i) noColumn) .form) ((getD (c .before .before .before .before .before .before .before .before .args .t1 .columns) (c .before .before .before .before .before .before .before .loop .i) noColumn) .count) ≡ true
 count c = sym (c .before .before .before .before .count-ok .ensures) ∙ not-false _ (c .before .before .before .if1 .left)
 
-width : (c : tie.After-num-bytes-field Inv-loop μ-loop) → c .num-bytes-field .result ≤ 134217744
-width c = omega (arith, c .num-bytes-field .ensures, column-limit (getD (c .before .before .before .before .before .before .before .before .args .t1 .columns) (c .before .before .before .before .before .before .before .loop .i) noColumn) (count c))
+width : (c : tie.After-field-bytes Inv-loop μ-loop) → c .field-bytes .result ≤ 134217744
+width c = omega (arith, c .field-bytes .ensures, column-limit (getD (c .before .before .before .before .before .before .before .before .args .t1 .columns) (c .before .before .before .before .before .before .before .loop .i) noColumn) (count c))
 
 loop-holds : tie.Need-loop-holds Inv-loop μ-loop
 loop-holds c = (omega arith, (omega arith, refl))
@@ -58,8 +58,8 @@ returns-2 c =
     sym (c .before .before .before .before .before .before .loop .inv .1 .1
     ∙ ok-start _ _ (columnsOf (s .args .t1)) (c .before .before .before .before .before .before .loop .i) _ (inside (c .before .before .before .before .before)) (column-at (s .args .t1) (c .before .before .before .before .before .before .loop .i) (c .before .before .before .before .before .loop-test .taken)) (c .if2 .taken))
 
-num-bytes-field-requires : tie.Need-num-bytes-field-requires Inv-loop μ-loop
-num-bytes-field-requires c κs = search needs
+field-bytes-requires : tie.Need-field-bytes-requires Inv-loop μ-loop
+field-bytes-requires c κs = search needs
 
 add-at : tie.Need-add-at Inv-loop μ-loop
 add-at c = omega (
@@ -83,7 +83,7 @@ loop-again c =
       (
         omega (arith, width c, c .before .before .before .before .before .before .before .loop .inv .1 .0),
         c .before .before .before .before .before .before .before .loop .inv .1 .1
-            ∙ (ok-next _ _ (columnsOf (s .args .t1)) (c .before .before .before .before .before .before .before .loop .i) _ (inside (c .before .before .before .before .before .before)) (column-at (s .args .t1) (c .before .before .before .before .before .before .before .loop .i) (c .before .before .before .before .before .before .loop-test .taken)) (count c) (c .before .if2 .left) ∙ ap (λ (w : ℕ). columnsOk (s .args .t1 .naxis1) (c .before .before .before .before .before .before .before .loop .at + w) (drop (c .before .before .before .before .before .before .before .loop .i + 1) (columnsOf (s .args .t1)))) (sym (c .num-bytes-field .ensures))),
+            ∙ (ok-next _ _ (columnsOf (s .args .t1)) (c .before .before .before .before .before .before .before .loop .i) _ (inside (c .before .before .before .before .before .before)) (column-at (s .args .t1) (c .before .before .before .before .before .before .before .loop .i) (c .before .before .before .before .before .before .loop-test .taken)) (count c) (c .before .if2 .left) ∙ ap (λ (w : ℕ). columnsOk (s .args .t1 .naxis1) (c .before .before .before .before .before .before .before .loop .at + w) (drop (c .before .before .before .before .before .before .before .loop .i + 1) (columnsOf (s .args .t1)))) (sym (c .field-bytes .ensures))),
       ),
     )
 
@@ -102,7 +102,7 @@ columns-ok-spec =
     count-ok-requires
     returns
     returns-2
-    num-bytes-field-requires
+    field-bytes-requires
     add-at
     add-i
     loop-less

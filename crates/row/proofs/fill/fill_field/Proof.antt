@@ -148,7 +148,7 @@ module _ {M : Type 1} (𝓤 : URA M) (H : Heap 𝓤) (A : Atoms 𝓤) (W : Given
 
   goes : (i : ℕ) → i < n → ent 𝓤 (⋆ 𝓤 H A (Token ∷ Area ∷ [])) (CellC 𝓤 H A mem run .pre (to-cell i))
   goes i small =
-      qed W (Token ∷ Area ∷ []) ∵ says ! (ok .0 i small, ok .1) $ nothing ! $ owned ! usize (Is usize) (uint-makes 𝓤 H A W w64) i _ (refl, i-fits i small) $ fjoin ! $
+      qed W (Token ∷ Area ∷ []) ∵ says ! (ok i small) $ nothing ! $ owned ! usize (Is usize) (uint-makes 𝓤 H A W w64) i _ (refl, i-fits i small) $ fjoin ! $
       owned ! P.the-row (Is P.the-row) (LL.makes P.the-type P′.the-plain 𝓤 H A) p _ p-is $ fjoin ! $ move ! (2 ∷ 0 ∷ []) $ fjoin ! $
       move ! (1 ∷ 0 ∷ []) $ done !
 
@@ -195,7 +195,7 @@ module _ {M : Type 1} (𝓤 : URA M) (H : Heap 𝓤) (A : Atoms 𝓤) (W : Given
       unfolding afterTurn
       more i X small k =
           qed W (At i) ∵ exec ! C Λ En pieces.turn-1 (anyQ (afterTurn 𝓤 H X Left)) $
-          assigns ! (bin ! (load ! (from ! (stop !)) (look ! 1 refl)) (load ! (from ! (fld ! refl (stop !))) (look-in ! 10 (sub ! 5 refl (whole !)))) tt) (from ! (stop !)) (init ! 3 refl (tt, tt)) $
+          assigns ! (bin ! (load ! (from ! (stop !)) (look ! 1 refl)) (load ! (from ! (fld ! refl (stop !))) (look-in ! 10 (sub ! 7 refl (whole !)))) tt) (from ! (stop !)) (init ! 3 refl (tt, tt)) $
           rewrite ! 3 (λ (t : Bool). ‵ (fat fullShare tyBool l₇ 0 (vbool t))) (lt-ltb i n small) refl $ stays ! (load ! (from ! (stop !)) (look ! 3 refl)) $
           -- a copy of the area is kept, and `planned_cell` is called
           move ! (16 ∷ []) $ use1 W (Area ⊛ Area) (shr-slice-copy 𝓤 H A W (named 1) κ′ u8 .twice area (s′ ∷ [])) $ split ! $ move ! (17 ∷ 0 ∷ []) $ use2 W (raw (CellC 𝓤 H A mem run .pre (to-cell i))) (goes i small) $
@@ -239,7 +239,7 @@ module _ {M : Type 1} (𝓤 : URA M) (H : Heap 𝓤) (A : Atoms 𝓤) (W : Given
       unfolding afterTurn
       ends X =
           qed W (At n) ∵ exec ! C Λ En pieces.turn-1 (anyQ (afterTurn 𝓤 H X Left)) $
-          assigns ! (bin ! (load ! (from ! (stop !)) (look ! 1 refl)) (load ! (from ! (fld ! refl (stop !))) (look-in ! 10 (sub ! 5 refl (whole !)))) tt) (from ! (stop !)) (init ! 3 refl (tt, tt)) $
+          assigns ! (bin ! (load ! (from ! (stop !)) (look ! 1 refl)) (load ! (from ! (fld ! refl (stop !))) (look-in ! 10 (sub ! 7 refl (whole !)))) tt) (from ! (stop !)) (init ! 3 refl (tt, tt)) $
           rewrite ! 3 (λ (t : Bool). ‵ (fat fullShare tyBool l₇ 0 (vbool t))) (le-ltb n n (omega arith)) refl $
           leaves-loop ! (load ! (from ! (stop !)) (look ! 3 refl)) $ exec ! C Λ En pieces.t-3 (atRet En Post) $
           assigns ! (of-opd ! (unit-lit !)) (from ! (stop !)) (init ! 11 refl (tt, tt)) $

@@ -298,8 +298,8 @@ module _ {M : Type 1} (𝓤 : URA M) (H : Heap 𝓤) (A : Atoms 𝓤) (W : Given
           land ! (from ! (stop !)) (init ! 15 refl (unit-typed w₂ unit)) $ split ! $ lft-end ! tt $ move ! (0 ∷ 4 ∷ 2 ∷ []) $ use3 W (later (‵ (MutSlice (named 0) κ R .own (x (us .0)) (sz zs ∷ [])) ⊛ ‵ (flft κ q))) (comes-back R κ (ν ∷ []) q γ b o 𝓤 H A W (named 0) (named 0) zs δ (us .0) (subst (Room R) (sym long) room) same-long) $
           await ! tt $ split ! $ rewrite ! 0 (λ (m : ℕ). ‵ (MutSlice (named 0) κ R .own (x (us .0)) (sliceVal (b, o) m ∷ []))) long refl $ rewrite ! 0 (λ (l : List Cell). ‵ (MutSlice (named 0) κ R .own (x l) (s ∷ []))) e₂ refl $
           -- on to the next column
-          assigns ! (bin ! (load ! (from ! (stop !)) (look ! 6 refl)) (load ! (from ! (fld ! refl (stop !))) (look-in ! 9 (sub ! 5 refl (whole !)))) (record { fits = next-at })) (from ! (stop !)) (store ! 6 refl (tt, record { fits = next-at })) $
-          assigns ! (of-opd ! (load ! (from ! (fld ! refl (stop !))) (look-in ! 9 (sub ! 6 refl (whole !))))) (from ! (stop !)) (store ! 7 refl (tt, record { fits = left-fits (is-found r w e is) })) $ assigns-last ! (bin ! (load ! (from ! (stop !)) (look ! 5 refl)) (lit ! tt) (record { fits = next-fits })) (from ! (stop !)) (store ! 5 refl (tt, record { fits = next-fits })) $
+          assigns ! (bin ! (load ! (from ! (stop !)) (look ! 6 refl)) (load ! (from ! (fld ! refl (stop !))) (look-in ! 9 (sub ! 7 refl (whole !)))) (record { fits = next-at })) (from ! (stop !)) (store ! 6 refl (tt, record { fits = next-at })) $
+          assigns ! (of-opd ! (load ! (from ! (fld ! refl (stop !))) (look-in ! 9 (sub ! 8 refl (whole !))))) (from ! (stop !)) (store ! 7 refl (tt, record { fits = left-fits (is-found r w e is) })) $ assigns-last ! (bin ! (load ! (from ! (stop !)) (look ! 5 refl)) (lit ! tt) (record { fits = next-fits })) (from ! (stop !)) (store ! 5 refl (tt, record { fits = next-fits })) $
           rewrite ! 5 (λ (j : ℕ). ‵ (fat fullShare (tyInt w64) l₆ 0 (vint w64 j))) (add-one c) refl $ forget ! 8 refl $ forget ! 9 refl $ forget ! 10 refl $ forget ! 11 refl $ forget ! 12 refl $ forget ! 13 refl $ forget ! 14 refl $
           forget ! 15 refl $ forget ! 16 refl $ forget ! 17 refl $ keep ! (4 ∷ 0 ∷ 1 ∷ 2 ∷ 3 ∷ 5 ∷ 6 ∷ 7 ∷ 8 ∷ 9 ∷ 10 ∷ 11 ∷ 12 ∷ 13 ∷ 14 ∷ 15 ∷ 16 ∷ 17 ∷ 18 ∷ 19 ∷ 20 ∷ 21 ∷ 22 ∷ 23 ∷ 24 ∷ 25 ∷ 26 ∷ 27 ∷ 28 ∷ 29 ∷ 30 ∷ 31 ∷ 32 ∷ 33 ∷ 34 ∷ 35 ∷ 36 ∷ 37 ∷ 38 ∷ 39 ∷ 40 ∷ 41 ∷ []) $
           by ! (k (left-fits (is-found r w e is))))))))))))))))
@@ -335,7 +335,7 @@ module _ {M : Type 1} (𝓤 : URA M) (H : Heap 𝓤) (A : Atoms 𝓤) (W : Given
           is-found r w e is = spelled P.the-row (LL.vals P.the-type P′.the-laws) (LL.tells P.the-type P′.the-laws) r (found c skip) _ e is
 
           left-fits : Is P.the-row (found c skip) (field-val (found c skip) ∷ []) → found c skip .skip < 2 ^ 64
-          left-fits is = LL.owed P.the-type P′.the-laws (found c skip) _ is .1 .1 .1 .1 .1 .1 .0 .1
+          left-fits is = LL.owed P.the-type P′.the-laws (found c skip) _ is .1 .1 .1 .1 .1 .1 .1 .1 .0 .1
 
       -- the turn that leaves the loop, and the rest of the body
       ends : (c skip at : ℕ) (zs : List Cell) (X : SProp 𝓤) → n ≤ c → zs ≡ filled cols (area .now) p 0 n (p .passed) 0 ys → length zs ≡ length ys

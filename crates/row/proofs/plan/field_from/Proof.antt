@@ -7,8 +7,8 @@ use borrow.Author.Needs.{needs}
 use Rattle.row.proofs.plan.field_from.Statement.{statement}
 use Rattle.row.proofs.plan.field_from.Tie as tie
 
-sub-t8 : tie.Need-sub-t8
-sub-t8 c = search needs
+sub-t10 : tie.Need-sub-t10
+sub-t10 c = search needs
 
 returns : tie.Need-returns
 returns c =
@@ -21,4 +21,4 @@ returns-2 c =
     let e : s .args .size - s .args .skip ≡ 0 = omega (arith, c .if1 .left) in rw e
 
 pub field-from-spec : {M : Type 1} → statement M
-field-from-spec = tie.close (tie.spec sub-t8 returns returns-2)
+field-from-spec = tie.close (tie.spec sub-t10 returns returns-2)

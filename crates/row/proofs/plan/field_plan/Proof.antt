@@ -1,7 +1,8 @@
--- `field_plan` meets its contract.
+-- `field_plan` meets its contract: one case for each form, and a column that is not chosen.
 -- Assumes nothing.
 use mathlib.Core.Path.{sym, _∙_}
 use borrow.Author.Needs.{needs}
+use Rattle.cell.specs.Field.{field}
 use Rattle.row.specs.Plan.{fieldPlan}
 use Rattle.row.proofs.plan.field_plan.Statement.{statement}
 use Rattle.row.proofs.plan.field_plan.Tie as tie
@@ -12,31 +13,72 @@ chosen-requires c κs = search needs
 add-at : tie.Need-add-at
 add-at c = search needs
 
-read-field-requires : tie.Need-read-field-requires
-read-field-requires c κs = search needs
+enum-known-form : tie.Need-enum-known-form
+enum-known-form c = search needs
 
-field-size-requires : tie.Need-field-size-requires
-field-size-requires c κs = search needs
+cast-item-count : tie.Need-cast-item-count
+cast-item-count c = search needs
+
+item-count-requires : tie.Need-item-count-requires
+item-count-requires c κs = search needs
 
 field-from-requires : tie.Need-field-from-requires
 field-from-requires c κs = search needs
 
 returns : tie.Need-returns
-unfolding fieldPlan
+unfolding fieldPlan field
 returns c =
     rw (
-      sym (c .before .before .before .before .before .before .chosen .ensures) ∙ c .before .before .before .before .before .if1 .taken,
+      sym (c .before .before .before .before .before .before .before .before .before .chosen .ensures) ∙ c .before .before .before .before .before .before .before .before .if1 .taken,
       c .field-from .ensures,
-      c .before .field-size .ensures,
-      c .before .before .read-field .ensures,
+      c .before .item-count .ensures,
+      c .before .before .before .before .form .given .1,
+    )
+
+enum-told : tie.Need-enum-told
+enum-told c = search needs
+
+read-field-requires : tie.Need-read-field-requires
+read-field-requires c κs = search needs
+
+descriptor-plan-requires : tie.Need-descriptor-plan-requires
+descriptor-plan-requires c κs = search needs
+
+returns-2 : tie.Need-returns-2
+unfolding fieldPlan
+returns-2 c =
+    rw (
+      sym (c .before .before .before .before .before .before .before .chosen .ensures) ∙ c .before .before .before .before .before .before .if1 .taken,
+      c .descriptor-plan .ensures,
+      c .before .read-field .ensures,
+      c .before .before .enum-told .given .1,
+    )
+
+enum-told-2 : tie.Need-enum-told-2
+enum-told-2 c = search needs
+
+read-field-requires-2 : tie.Need-read-field-requires-2
+read-field-requires-2 c κs = search needs
+
+descriptor-plan-requires-2 : tie.Need-descriptor-plan-requires-2
+descriptor-plan-requires-2 c κs = search needs
+
+returns-3 : tie.Need-returns-3
+unfolding fieldPlan
+returns-3 c =
+    rw (
+      sym (c .before .before .before .before .before .before .before .chosen .ensures) ∙ c .before .before .before .before .before .before .if1 .taken,
+      c .descriptor-plan2 .ensures,
+      c .before .read-field2 .ensures,
+      c .before .before .enum-told2 .given .1,
     )
 
 field-from-requires-2 : tie.Need-field-from-requires-2
 field-from-requires-2 c κs = search needs
 
-returns-2 : tie.Need-returns-2
+returns-4 : tie.Need-returns-4
 unfolding fieldPlan
-returns-2 c = rw (sym (c .before .before .chosen .ensures) ∙ c .before .if1 .left, c .field-from2 .ensures)
+returns-4 c = rw (sym (c .before .before .chosen .ensures) ∙ c .before .if1 .left, c .field-from2 .ensures)
 
 pub field-plan-spec : {M : Type 1} → statement M
 field-plan-spec =
@@ -44,9 +86,18 @@ field-plan-spec =
     (tie.spec
     chosen-requires
     add-at
-    read-field-requires
-    field-size-requires
+    enum-known-form
+    cast-item-count
+    item-count-requires
     field-from-requires
     returns
+    enum-told
+    read-field-requires
+    descriptor-plan-requires
+    returns-2
+    enum-told-2
+    read-field-requires-2
+    descriptor-plan-requires-2
+    returns-3
     field-from-requires-2
-    returns-2)
+    returns-4)

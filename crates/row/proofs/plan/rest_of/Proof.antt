@@ -45,8 +45,8 @@ here t =
     (t .loop .inv)
 
 -- and the field's plan the one of the column
-fielded : (c : tie.After-field-plan Inv-loop μ-loop) → c .field-plan .result ≡ fieldOn (c .before .before .before .before .before .before .args .t1) (c .before .before .before .before .before .before .args .area .now) (c .before .before .before .before .before .before .args .cursor) (own (c .before .before .before .before .before .before)) (c .before .before .before .loop .c) (c .before .before .before .loop .skip)
-fielded c = rw (c .field-plan .ensures, c .before .before .before .before .plan-for .ensures)
+fielded : (c : tie.After-judged-plan Inv-loop μ-loop) → c .judged-plan .result ≡ fieldOn (c .before .before .before .before .before .before .args .t1) (c .before .before .before .before .before .before .args .area .now) (c .before .before .before .before .before .before .args .cursor) (own (c .before .before .before .before .before .before)) (c .before .before .before .loop .c) (c .before .before .before .loop .skip)
+fielded c = rw (c .judged-plan .ensures, c .before .before .before .before .plan-for .ensures)
 
 plan-for-requires : tie.Need-plan-for-requires Inv-loop μ-loop
 plan-for-requires c κs = (ok (c .before), c .before .pre .1)
@@ -61,8 +61,8 @@ mul-column c = omega (arith, c .loop-test .taken, columns (c .before .before .be
 element-copy-out-column : tie.Need-element-copy-out-column Inv-loop μ-loop
 element-copy-out-column c = omega (arith, c .loop-test .taken, columns (c .before .before .before .before))
 
-field-plan-requires : tie.Need-field-plan-requires Inv-loop μ-loop
-field-plan-requires c κs =
+judged-plan-requires : tie.Need-judged-plan-requires Inv-loop μ-loop
+judged-plan-requires c κs =
     let s = c .before .before .before .before .before in
     rw (c .before .before .before .plan-for .ensures)
     (start-fits (s .args .t1) (s .args .area .now) (s .args .cursor) (own s) (ok (c .before .before .before .before .before)) (s .pre .1)
@@ -126,7 +126,7 @@ rest-of-spec =
     loop-holds
     mul-column
     element-copy-out-column
-    field-plan-requires
+    judged-plan-requires
     is-outside-requires
     returns
     add-total

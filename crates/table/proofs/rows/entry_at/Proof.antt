@@ -36,9 +36,9 @@ size s c = columnSize (s .args .t1) (s .args .area .now) (s .args .choice) (s .a
 abbrev fieldAt : tie.Start Inv-loop μ-loop → ℕ → Field
 fieldAt s c = fieldOf (s .args .t1) (s .args .area .now) (s .args .heap) (s .args .row) c
 
-sized : (c : tie.After-column-size Inv-loop μ-loop) → c .column-size .result ≡ size (c .before .before .before .before .before .before .before) (c .before .before .before .before .before .loop .c)
+sized : (c : tie.After-any-size Inv-loop μ-loop) → c .any-size .result ≡ size (c .before .before .before .before .before .before .before) (c .before .before .before .before .before .loop .c)
 unfolding fieldOf
-sized c = rw (c .column-size .ensures, c .before .chosen .ensures)
+sized c = rw (c .any-size .ensures, c .before .chosen .ensures)
 
 -- the field of the column that has the entry
 field : (c : tie.After-read-field Inv-loop μ-loop) → c .read-field .result ≡ fieldAt (c .before .before .before .before .before .before .before .before .before) (c .before .before .before .before .before .before .before .loop .c)
@@ -86,8 +86,8 @@ add-at c =
 chosen-requires : tie.Need-chosen-requires Inv-loop μ-loop
 chosen-requires c κs = omega (arith, c .before .before .loop-test .taken, columns (c .before .before .before .before .before))
 
-column-size-requires : tie.Need-column-size-requires Inv-loop μ-loop
-column-size-requires c κs = search needs
+any-size-requires : tie.Need-any-size-requires Inv-loop μ-loop
+any-size-requires c κs = search needs
 
 read-field-requires : tie.Need-read-field-requires Inv-loop μ-loop
 read-field-requires c κs = search needs
@@ -160,7 +160,7 @@ entry-at-spec =
     element-copy-out-column
     add-at
     chosen-requires
-    column-size-requires
+    any-size-requires
     read-field-requires
     entry-in-requires
     returns

@@ -1,37 +1,28 @@
 -- `entry_in` meets its contract.
 -- Assumes nothing.
 use Prim.Native.Nat.{_+_, _*_, _≤_}
-use mathlib.Core.Path.{_≡_, _∙_, ap}
 use native.Mathlib.Nat.{mul-le-mul-right}
 use native.Mathlib.Omega.{arith}
 use borrow.Author.Needs.{needs}
-use Rattle.tform.specs.Width.{letterWidth}
 use Rattle.layout.specs.Layout.{dataLimit}
 use Rattle.cell.specs.Item.{width}
 use Rattle.table.proofs.rows.entry_in.Statement.{statement}
 use Rattle.table.proofs.rows.entry_in.Tie as tie
 
 -- the item lies inside the data
-inside : (c : tie.After-item-width) → c .before .before .before .field .given .0 .1 .0 + c .before .before .before .before .before .before .args .idx * c .item-width .result ≤ dataLimit
+inside : (c : tie.After-width) → c .before .before .field .given .0 .1 .0 + c .before .before .before .before .before .args .idx * c .width .result ≤ dataLimit
 inside c =
-    let g = c .before .before .before .field .given in
-    let p = c .before .before .before .before .before .before .pre in
-    let w : c .item-width .result ≡ width (g .0 .0) = c .item-width .ensures ∙ ap letterWidth (c .before .letter .ensures) in
+    let g = c .before .before .field .given in
+    let p = c .before .before .before .before .before .pre in
     let i = rw (g .1) at (p .0) in
     let h = rw (g .1) at (p .1) in
-    rw w (omega (arith, h, mul-le-mul-right (width (g .0 .0)) i))
+    rw (c .width .ensures) (omega (arith, h, mul-le-mul-right (width (g .0 .0)) i))
 
 enum-known-field : tie.Need-enum-known-field
 enum-known-field c = search needs
 
-letter-requires : tie.Need-letter-requires
-letter-requires c κs = search needs
-
-item-width-requires : tie.Need-item-width-requires
-item-width-requires c κs = search needs
-
-cast-width : tie.Need-cast-width
-cast-width c = search needs
+width-requires : tie.Need-width-requires
+width-requires c κs = search needs
 
 mul-read-item : tie.Need-mul-read-item
 mul-read-item c = omega (arith, inside c)
@@ -50,7 +41,7 @@ enum-told c = search needs
 
 returns : tie.Need-returns
 returns c =
-    rw (c .before .before .before .before .field .given .1, c .read-item .ensures, c .before .item-width .ensures, c .before .before .letter .ensures)
+    rw (c .before .before .before .field .given .1, c .read-item .ensures, c .before .width .ensures)
 
 returns-2 : tie.Need-returns-2
 returns-2 c = rw (c .before .field2 .given .1)
@@ -63,9 +54,7 @@ entry-in-spec =
     tie.close
     (tie.spec
     enum-known-field
-    letter-requires
-    item-width-requires
-    cast-width
+    width-requires
     mul-read-item
     add-read-item
     read-item-requires

@@ -38,12 +38,12 @@ rest s c = from (s .args .t1) (s .args .area .now) (s .args .choice) (s .args .h
 abbrev row : tie.Start Inv-loop μ-loop → List Entry
 row s = rowEntries (s .args .t1) (s .args .area .now) (s .args .choice) (s .args .heap) (s .args .row)
 
-sized : (c : tie.After-column-size Inv-loop μ-loop) → c .column-size .result ≡ size (c .before .before .before .before .before .before .before) (c .before .before .before .before .before .loop .c)
+sized : (c : tie.After-any-size Inv-loop μ-loop) → c .any-size .result ≡ size (c .before .before .before .before .before .before .before) (c .before .before .before .before .before .loop .c)
 unfolding fieldOf
-sized c = rw (c .column-size .ensures, c .before .before .chosen .ensures)
+sized c = rw (c .any-size .ensures, c .before .before .chosen .ensures)
 
 -- and those of the columns after it
-grows : (c : tie.After-column-size Inv-loop μ-loop) → c .before .before .before .before .before .loop .total + (c .column-size .result + length (rest (c .before .before .before .before .before .before .before) (suc (c .before .before .before .before .before .loop .c)))) ≡ length (row (c .before .before .before .before .before .before .before))
+grows : (c : tie.After-any-size Inv-loop μ-loop) → c .before .before .before .before .before .loop .total + (c .any-size .result + length (rest (c .before .before .before .before .before .before .before) (suc (c .before .before .before .before .before .loop .c)))) ≡ length (row (c .before .before .before .before .before .before .before))
 grows c =
     let t = c .before .before .before .before .before in
     let s = c .before .before .before .before .before .before .before in
@@ -76,8 +76,8 @@ element-copy-out-column c = omega (arith, c .loop-test .taken, columns (c .befor
 chosen-requires : tie.Need-chosen-requires Inv-loop μ-loop
 chosen-requires c κs = omega (arith, c .before .loop-test .taken, columns (c .before .before .before .before))
 
-add-column-size : tie.Need-add-column-size Inv-loop μ-loop
-add-column-size c =
+add-any-size : tie.Need-add-any-size Inv-loop μ-loop
+add-any-size c =
     omega (
       arith,
       column-in-row _ (ok (c .before .before .before .before .before .before)) (c .before .before .before .before .loop .c)
@@ -87,8 +87,8 @@ add-column-size c =
       data-bound _ (ok (c .before .before .before .before .before .before)),
     )
 
-column-size-requires : tie.Need-column-size-requires Inv-loop μ-loop
-column-size-requires c κs = search needs
+any-size-requires : tie.Need-any-size-requires Inv-loop μ-loop
+any-size-requires c κs = search needs
 
 add-total : tie.Need-add-total Inv-loop μ-loop
 add-total c =
@@ -135,8 +135,8 @@ row-size-spec =
     mul-column
     element-copy-out-column
     chosen-requires
-    add-column-size
-    column-size-requires
+    add-any-size
+    any-size-requires
     add-total
     add-c
     loop-less

@@ -1,0 +1,3 @@
+mod Counting
+mod Room
+mod Texts

@@ -1,0 +1,14 @@
+-- `after_row` meets its contract.
+-- Assumes nothing.
+use borrow.Author.Needs.{needs}
+use Rattle.exports.proofs.rows.after_row.Statement.{statement}
+use Rattle.exports.proofs.rows.after_row.Tie as tie
+
+is-row-requires : tie.Need-is-row-requires
+is-row-requires c κs = search needs
+
+returns : tie.Need-returns
+returns c = rw (c .is-row .ensures)
+
+pub after-row-spec : {M : Type 1} → statement M
+after-row-spec = tie.close (tie.spec is-row-requires returns)

@@ -1,0 +1,3 @@
+pub mod Checksum
+pub mod Reads
+pub mod RowSums
