@@ -24,22 +24,12 @@ enum Case {
     Cut,
 }
 
-// The bound is for `length_at`, whose products must fit.
-fn wide(byte: u8) -> usize
-    ensures { λ r. ⌜ (r ≡ byte) × (r < 256) ⌝ }
-{
-    byte as usize
-}
-
-// The number that four bytes say.
-fn length_at(bytes: &[u8], at: usize) -> usize
-    requires { ⌜ at + 4 ≤ length (now bytes) ⌝ }
+// The number that the four bytes from a place on say. The bound is for the sums of three of them.
+fn length_at(bytes: &[u8], at: u8) -> usize
     ensures value { λ r. ⌜ r ≡ word (now (bytes .entry)) at 4 ⌝ }
     ensures bounded { λ r. ⌜ r < 2 ^ 32 ⌝ }
 {
-    let high = wide(bytes[at]) * 256 + wide(bytes[at + 1]);
-    let low = wide(bytes[at + 2]) * 256 + wide(bytes[at + 3]);
-    high * 65536 + low
+    cell::words::u32_at(bytes, 0, at) as usize
 }
 
 // The case at the front of some bytes.
