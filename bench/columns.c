@@ -30,21 +30,26 @@ static size_t width(int type) {
     }
 }
 
-// n values of a column from index `from` of its buffer on.
-static uint32_t add_values(uint32_t sum, const struct column *column, LONGLONG from, LONGLONG n) {
+// The cells of `rows` rows of a column from row `row` on, n in each; they stand in its buffer from index `at` on.
+static uint32_t add_cells(uint32_t sum, const struct column *column, LONGLONG at, LONGLONG row, LONGLONG rows,
+                          LONGLONG n) {
     const uint16_t *shorts = column->values;
     const uint32_t *words = column->values;
     const uint64_t *longs = column->values;
-    for (LONGLONG i = from; i < from + n; i++) {
-        switch (column->type) {
-        case TSHORT:
-            sum = add(sum, shorts[i]);
-            break;
-        case TDOUBLE:
-            sum = add(add(sum, (uint32_t)(longs[i] >> 32)), (uint32_t)longs[i]);
-            break;
-        default:
-            sum = add(sum, words[i]);
+    uint32_t index = (uint32_t)column->number - 1;
+    for (LONGLONG r = row - 1; r < row - 1 + rows; r++) {
+        for (LONGLONG i = 0; i < n; i++, at++) {
+            sum = add(add(add(sum, (uint32_t)r), index), (uint32_t)i);
+            switch (column->type) {
+            case TSHORT:
+                sum = add(sum, shorts[at]);
+                break;
+            case TDOUBLE:
+                sum = add(add(sum, (uint32_t)(longs[at] >> 32)), (uint32_t)longs[at]);
+                break;
+            default:
+                sum = add(sum, words[at]);
+            }
         }
     }
     return sum;
@@ -70,7 +75,7 @@ static uint32_t add_array(uint32_t sum, fitsfile *file, struct column *column, L
     LONGLONG n, offset;
     fits_read_descriptll(file, column->number, row, &n, &offset, status);
     read_values(file, column, row, n, status);
-    return add_values(sum, column, 0, n);
+    return add_cells(sum, column, 0, row, 1, n);
 }
 
 // cfitsio keeps both pointers until the file is closed.
@@ -105,7 +110,7 @@ static uint32_t by_columns(fitsfile *file, struct column *columns, size_t count,
                 sum = add_array(sum, file, &columns[c], row, status);
         } else {
             read_values(file, &columns[c], 1, rows * columns[c].repeat, status);
-            sum = add_values(sum, &columns[c], 0, rows * columns[c].repeat);
+            sum = add_cells(sum, &columns[c], 0, 1, rows, columns[c].repeat);
         }
     }
     return sum;
@@ -118,7 +123,7 @@ static uint32_t add_row(uint32_t sum, fitsfile *file, struct column *columns, si
         if (column->is_array)
             sum = add_array(sum, file, column, row, status);
         else
-            sum = add_values(sum, column, (row - first) * column->repeat, column->repeat);
+            sum = add_cells(sum, column, (row - first) * column->repeat, row, 1, column->repeat);
     }
     return sum;
 }

@@ -1,8 +1,8 @@
 //! The readers that are timed. Each reads all chosen cells of a table, from the opening on, and gives their checksum.
 
-use crate::tables::{add, Table};
+use crate::tables::{add, add_place, Table};
 use fitsrs::hdu::data::bintable::{ColumnId, DataValue};
-use fitsrs::{parse_header, TableData};
+use fitsrs::{parse_header, row_of, TableData};
 use std::hint::black_box;
 use std::io::Cursor;
 
@@ -16,7 +16,6 @@ mod library {
         pub fn coentrift_sum_cells(header: *const u8, header_len: usize, area: *const u8, area_len: usize, cols: *const usize, ncols: usize, heap: bool) -> u64;
         pub fn coentrift_sum_lent(header: *const u8, header_len: usize, area: *const u8, area_len: usize, cols: *const usize, ncols: usize, heap: bool) -> u64;
         pub fn coentrift_sum_rows(header: *const u8, header_len: usize, area: *const u8, area_len: usize, cols: *const usize, ncols: usize, heap: bool) -> u64;
-        pub fn coentrift_sum_long_rows(header: *const u8, header_len: usize, area: *const u8, area_len: usize, cols: *const usize, ncols: usize, heap: bool) -> u64;
         pub fn coentrift_layout(header: *const u8, header_len: usize, area: *const u8, area_len: usize) -> u64;
         pub fn cfitsio_sum(bytes: *mut u8, len: usize, cols: *const usize, ncols: usize, whole_columns: i32) -> u64;
         pub fn cfitsio_open(bytes: *mut u8, len: usize) -> u64;
@@ -25,19 +24,11 @@ mod library {
 }
 
 /// The longest row, in cells, that coentrift_sum_rows takes.
-const SHORT_LIST: usize = 512;
+pub const LONGEST_ROW: usize = 512;
 
 pub const CELL_READ: Sum = library::coentrift_sum_cells;
 pub const LENT_CELL_READ: Sum = library::coentrift_sum_lent;
-
-/// The row read whose list is long enough for a table's rows.
-pub fn row_read(table: &Table, choice: &[usize]) -> Sum {
-    if table.row_cells(choice) <= SHORT_LIST {
-        library::coentrift_sum_rows
-    } else {
-        library::coentrift_sum_long_rows
-    }
-}
+pub const ROW_READ: Sum = library::coentrift_sum_rows;
 
 pub fn ours(sum: Sum, table: &Table, choice: &[usize]) -> u64 {
     let (header, area) = (&table.header, &table.area);
@@ -59,14 +50,21 @@ pub fn our_layout(table: &Table) -> u64 {
     unsafe { library::coentrift_layout(header.as_ptr(), header.len(), area.as_ptr(), area.len()) }
 }
 
-fn add_value(sum: u32, value: &DataValue) -> u32 {
+/// A sum with a cell: its place, then its value's bits.
+fn add_cell(sum: u32, row: usize, value: &DataValue) -> u32 {
+    let placed = |column: &ColumnId, idx: &usize| match column {
+        ColumnId::Index(column) => add_place(sum, row, *column, *idx),
+        ColumnId::Name(_) => unreachable!("the crate gives columns by index"),
+    };
     match value {
-        DataValue::Short { value, .. } => add(sum, u32::from(*value as u16)),
-        DataValue::Integer { value, .. } => add(sum, *value as u32),
-        DataValue::Float { value, .. } => add(sum, value.to_bits()),
-        DataValue::Double { value, .. } => {
+        DataValue::Short { value, column, idx } => {
+            add(placed(column, idx), u32::from(*value as u16))
+        }
+        DataValue::Integer { value, column, idx } => add(placed(column, idx), *value as u32),
+        DataValue::Float { value, column, idx } => add(placed(column, idx), value.to_bits()),
+        DataValue::Double { value, column, idx } => {
             let bits = value.to_bits();
-            add(add(sum, (bits >> 32) as u32), bits as u32)
+            add(add(placed(column, idx), (bits >> 32) as u32), bits as u32)
         }
         _ => unreachable!("the tables have I, J, E and D"),
     }
@@ -83,14 +81,24 @@ fn fitsrs_table<'a>(table: &'a Table, choice: &[usize]) -> TableData<Cursor<&'a 
 }
 
 pub fn fitsrs_next(table: &Table, choice: &[usize]) -> u64 {
-    let values = fitsrs_table(table, choice);
-    values.fold(0, |sum, value| add_value(sum, &value)).into()
+    let mut values = fitsrs_table(table, choice);
+    let mut sum = 0;
+    loop {
+        let row = row_of(&values);
+        let Some(value) = values.next() else {
+            return sum.into();
+        };
+        sum = add_cell(sum, row, &value);
+    }
 }
 
 pub fn fitsrs_rows(table: &Table, choice: &[usize]) -> u64 {
-    let rows = fitsrs_table(table, choice).row_iter();
-    rows.fold(0, |sum, row| row.iter().fold(sum, add_value))
-        .into()
+    let rows = fitsrs_table(table, choice).row_iter().enumerate();
+    rows.fold(0, |sum, (row, values)| {
+        let add = |sum, value| add_cell(sum, row, value);
+        values.iter().fold(sum, add)
+    })
+    .into()
 }
 
 /// Every record and then the layout; gives the number of columns.

@@ -46,6 +46,15 @@ pub fn add(sum: u32, word: u32) -> u32 {
     sum.wrapping_mul(31).wrapping_add(word)
 }
 
+/// A sum with the place of a cell.
+pub fn add_place(sum: u32, row: usize, column: usize, idx: usize) -> u32 {
+    add(add(add(sum, row as u32), column as u32), idx as u32)
+}
+
+fn name(column: usize) -> String {
+    format!("COLUMN{}", column + 1)
+}
+
 fn record(name: &str, value: &str) -> String {
     format!("{:80}", format!("{name:8}= {value}"))
 }
@@ -165,23 +174,29 @@ impl Table {
         self.row_cells(choice) * self.rows
     }
 
-    /// The sum of the layout: the sizes, then the count and start of each column.
+    /// The sum of the layout: the sizes, then of each column its letters, count and start, and its name after
+    /// the name's length.
     pub fn layout_sum(&self) -> u32 {
         let main = self.rows * self.row_width;
-        let sizes = [
+        let mut words = vec![
             self.row_width,
             self.rows,
             self.area.len() - main,
             main,
             self.columns.len(),
         ];
-        let sum = sizes.iter().fold(0, |sum, size| add(sum, *size as u32));
         let mut start = 0;
-        self.columns.iter().fold(sum, |sum, column| {
-            let sum = add(add(sum, column.count as u32), start as u32);
+        for (index, column) in self.columns.iter().enumerate() {
+            let letter = column.letter as usize;
+            let name = name(index);
+            words.extend(match column.is_array {
+                true => ['P' as usize, letter, 1, start, name.len()],
+                false => [letter, 0, column.count, start, name.len()],
+            });
+            words.extend(name.bytes().map(usize::from));
             start += column.width();
-            sum
-        })
+        }
+        words.iter().fold(0, |sum, word| add(sum, *word as u32))
     }
 
     /// The sum of the chosen cells, row by row.
@@ -211,12 +226,15 @@ impl Table {
             at = self.rows * self.row_width + self.word(at + 4, 4) as usize;
         }
         let width = column.item_width();
-        (0..column.count).fold(sum, |sum, i| match width {
-            8 => add(
-                add(sum, self.word(at + i * 8, 4)),
-                self.word(at + i * 8 + 4, 4),
-            ),
-            _ => add(sum, self.word(at + i * width, width)),
+        (0..column.count).fold(sum, |sum, i| {
+            let sum = add_place(sum, row, c, i);
+            match width {
+                8 => add(
+                    add(sum, self.word(at + i * 8, 4)),
+                    self.word(at + i * 8 + 4, 4),
+                ),
+                _ => add(sum, self.word(at + i * width, width)),
+            }
         })
     }
 
@@ -248,7 +266,7 @@ fn header(
     for (i, column) in columns.iter().enumerate() {
         list.push(record(
             &format!("TTYPE{}", i + 1),
-            &format!("'COLUMN{}' / name", i + 1),
+            &format!("'{}' / name", name(i)),
         ));
         list.push(record(
             &format!("TFORM{}", i + 1),

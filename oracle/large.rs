@@ -1,8 +1,10 @@
 //! The port and the Rust side by side through the port's static library: the random tables of `tables`, and
 //! large ones. Lists of steps go through `coentrift_replay`, and the cells of a whole table through the
-//! checksums, against the same sum over the Rust's cells.
+//! checksums, against the same sum over the Rust's cells. A row with more cells than the list of a row read
+//! is compared by cell reads; the row reads must then end with refusal 14.
 //!
 //! `large SEED TABLES`. The status is 1 if something differs, or a changed byte goes unnoticed.
+//! `large stack SEED` calls each function of the library on a thread with a stack of 256 KiB.
 
 #[allow(dead_code)]
 mod common;
@@ -13,12 +15,13 @@ mod kinds;
 mod reader;
 mod records;
 
-use common::{item_width, Kind, Random};
+use common::{item_width, place, Kind, Random};
 use fitsrs::hdu::data::bintable::DataValue;
-use fitsrs::layout_of;
+use fitsrs::{layout_of, row_of};
 use generate::{Choice, Column, Sizes, Table};
 use kinds::{difference, Case, FEW, KINDS};
-use reader::{expected, open, Lengths};
+use reader::{doubled, expected, open, Lengths, Open};
+use std::thread;
 
 type Sum =
     unsafe extern "C" fn(*const u8, usize, *const u8, usize, *const usize, usize, bool) -> u64;
@@ -65,27 +68,30 @@ extern "C" {
         cols_len: usize,
         heap: bool,
     ) -> u64;
-    fn coentrift_sum_long_rows(
-        header: *const u8,
-        header_len: usize,
-        area: *const u8,
-        area_len: usize,
-        cols: *const usize,
-        cols_len: usize,
-        heap: bool,
-    ) -> u64;
 }
 
-/// The longest rows that the sums by row reads have a list for.
-const ROW: usize = 512;
-const LONG_ROW: usize = 1_048_576;
-/// A list of 1,048,576 cells is on the stack.
-const STACK: usize = 1 << 29;
+/// The checksums of cells. The last goes by row reads.
+const SUMS: [(&str, Sum); 3] = [
+    ("coentrift_sum_cells", coentrift_sum_cells),
+    ("coentrift_sum_lent", coentrift_sum_lent),
+    ("coentrift_sum_rows", coentrift_sum_rows),
+];
 
-/// The port's text for a table and steps; there is room for more than is expected.
-fn replayed(case: &Case, room: usize) -> Vec<u8> {
+/// The longest row that the row reads have a list for, and the most bytes of a row.
+const ROW: usize = 512;
+const ROW_BYTES: usize = 1_048_576;
+
+/// The stack that every function of the library must do with.
+const STACK: usize = 256 << 10;
+
+/// A refusal's number above a sum.
+fn with_number(number: u64, sum: u32) -> u64 {
+    number << 32 | u64::from(sum)
+}
+
+/// The port's text for a file and steps; there is room for more than is expected.
+fn replayed(file: &[u8], steps: &[u8], room: usize) -> Vec<u8> {
     let mut out = vec![0; room];
-    let (file, steps) = (&case.file, case.replayed.steps.as_bytes());
     // SAFETY: each pointer comes with its length.
     let length = unsafe {
         coentrift_replay(
@@ -159,11 +165,11 @@ fn add_value(sum: u32, value: &DataValue) -> u32 {
     }
 }
 
-/// The sum of a layout: the sizes, then the count and start of each column, a word each.
+/// The sum of a layout, a word each: the sizes, then of each column its letter, that of an array's items or 0,
+/// count and start, and the bytes of its name after their number.
 fn rust_layout(table: &Table, file: &[u8]) -> u64 {
     let open = open(file, table.header.len(), None, true);
     let layout = layout_of(&open);
-    let columns = layout.columns.iter().zip(&open.col_byte_offsets);
     let mut words = vec![
         layout.naxis1 as u32,
         layout.naxis2 as u32,
@@ -171,52 +177,107 @@ fn rust_layout(table: &Table, file: &[u8]) -> u64 {
         layout.theap as u32,
         layout.columns.len() as u32,
     ];
-    words.extend(columns.flat_map(|(column, start)| [column.count as u32, *start as u32]));
-    u64::from(add(0, &words))
+    for (column, start) in layout.columns.iter().zip(&open.col_byte_offsets) {
+        let element = column.element.bytes().next().unwrap_or(0);
+        let name = doubled(&column.name);
+        words.extend([column.letter as u32, element.into(), column.count as u32]);
+        words.extend([*start as u32, name.len() as u32]);
+        words.extend(name.bytes().map(u32::from));
+    }
+    with_number(0, add(0, &words))
 }
 
-fn port_layout(table: &Table) -> u64 {
-    let (header, area) = (&table.header, &table.area);
+fn port_layout(header: &[u8], area: &[u8]) -> u64 {
     // SAFETY: each pointer comes with its length.
     unsafe { coentrift_layout(header.as_ptr(), header.len(), area.as_ptr(), area.len()) }
 }
 
-/// The Rust's cells of a table: their sum, their number, and the cells of the longest row.
-struct Whole {
-    sum: u64,
-    cells: usize,
-    longest_row: usize,
+/// Gives each value of the Rust its column and index. The Rust gives none with a descriptor: those of a row
+/// are of the chosen columns in their order.
+struct Places {
+    arrays: Vec<usize>,
+    row: usize,
+    passed: usize,
 }
 
-/// Read cell by cell and row by row, which must be the same.
-fn rust_sum(table: &Table, file: &[u8]) -> Result<Whole, String> {
+impl Places {
+    fn of(table: &Table) -> Places {
+        let mut arrays = table.choice.columns.clone();
+        arrays.retain(|column| table.columns[*column].kind != Kind::Field);
+        Places {
+            arrays,
+            row: 0,
+            passed: 0,
+        }
+    }
+
+    fn next(&mut self, row: usize, value: &DataValue) -> (usize, usize) {
+        if row != self.row {
+            (self.row, self.passed) = (row, 0);
+        }
+        place(value).unwrap_or_else(|| {
+            self.passed += 1;
+            (self.arrays[self.passed - 1], 0)
+        })
+    }
+}
+
+fn add_cell(sum: u32, row: usize, place: (usize, usize), value: &DataValue) -> u32 {
+    let words = [row, place.0, place.1].map(|n| n as u32);
+    add_value(add(sum, &words), value)
+}
+
+fn opened<'a>(table: &Table, file: &'a [u8]) -> Open<'a> {
     let choice = &table.choice;
-    let open = || {
-        open(
-            file,
-            table.header.len(),
-            choice.given.as_deref(),
-            choice.heap,
-        )
-    };
+    open(
+        file,
+        table.header.len(),
+        choice.given.as_deref(),
+        choice.heap,
+    )
+}
+
+/// What cell reads give by the Rust's cells: the sum of all, or of those before the array at `outside`, which
+/// is a 13. With it the number of cells.
+fn rust_cells(table: &Table, file: &[u8], outside: Option<(usize, usize)>) -> (u64, usize) {
+    let mut open = opened(table, file);
+    let mut places = Places::of(table);
     let (mut sum, mut cells) = (0, 0);
-    for value in open() {
-        sum = add_value(sum, &value);
+    loop {
+        let row = row_of(&open);
+        let Some(value) = open.next() else {
+            return (with_number(0, sum), cells);
+        };
+        let place = places.next(row, &value);
+        if outside == Some((row, place.0)) {
+            return (with_number(13, sum), cells);
+        }
+        sum = add_cell(sum, row, place, &value);
         cells += 1;
     }
-    let (mut row_sum, mut longest_row) = (0, 0);
-    for row in open().row_iter() {
-        row_sum = row.iter().fold(row_sum, add_value);
-        longest_row = longest_row.max(row.len());
+}
+
+/// What row reads give by the Rust's rows: the sum of all rows, or of those before the row of the array that
+/// is a 13, or before one with more cells than the list, which is a 14.
+fn rust_rows(table: &Table, file: &[u8], outside: Option<usize>) -> u64 {
+    let mut rows = opened(table, file).row_iter();
+    let mut places = Places::of(table);
+    let mut sum = 0;
+    loop {
+        let row = rows.get_row_idx();
+        let Some(values) = rows.next() else {
+            return with_number(0, sum);
+        };
+        if outside == Some(row) {
+            return with_number(13, sum);
+        }
+        if values.len() > ROW {
+            return with_number(14, sum);
+        }
+        for value in &values {
+            sum = add_cell(sum, row, places.next(row, value), value);
+        }
     }
-    if row_sum != sum {
-        return Err("the Rust's rows are not its cells".to_string());
-    }
-    Ok(Whole {
-        sum: u64::from(sum),
-        cells,
-        longest_row,
-    })
 }
 
 #[derive(Default)]
@@ -226,14 +287,20 @@ struct Totals {
     longest_header: usize,
     summed: usize,
     changed: usize,
+    refused: usize,
 }
 
 impl Totals {
     fn print(&self, what: &str) {
         println!(
-            "{what}: {} steps, {} cells summed, 0 differences; {} changed bits noticed; at most {} steps, \
-             a header of {} bytes",
-            self.steps, self.summed, self.changed, self.most_steps, self.longest_header
+            "{what}: {} steps, {} cells summed, {} refusals, 0 differences; {} changed bits noticed; at most {} \
+             steps, a header of {} bytes",
+            self.steps,
+            self.summed,
+            self.refused,
+            self.changed,
+            self.most_steps,
+            self.longest_header
         );
     }
 }
@@ -245,55 +312,117 @@ fn compare_steps(case: &Case, totals: &mut Totals) -> Result<(), String> {
     totals.steps += steps;
     totals.most_steps = totals.most_steps.max(steps);
     totals.longest_header = totals.longest_header.max(case.table.header.len());
-    let printed = replayed(case, text.len() + 4096);
+    let steps = case.replayed.steps.as_bytes();
+    let printed = replayed(&case.file, steps, text.len() + 4096);
     difference("coentrift_replay", &printed, &text)
 }
 
-/// The same steps and the same sums.
-fn compare(case: &Case, random: &mut Random, totals: &mut Totals) -> Result<Whole, String> {
-    compare_steps(case, totals)?;
-    if port_layout(&case.table) != rust_layout(&case.table, &case.file) {
-        return Err("coentrift_layout: another layout".to_string());
+/// One answer of the port beside the one that the Rust's cells lead to.
+fn same(name: &str, ours: u64, theirs: u64, totals: &mut Totals) -> Result<(), String> {
+    totals.refused += usize::from(theirs >> 32 > 0);
+    if ours == theirs {
+        return Ok(());
     }
-    let whole = rust_sum(&case.table, &case.file)?;
-    let sums: [(&str, Sum, usize); 4] = [
-        ("coentrift_sum_cells", coentrift_sum_cells, usize::MAX),
-        ("coentrift_sum_lent", coentrift_sum_lent, usize::MAX),
-        ("coentrift_sum_rows", coentrift_sum_rows, ROW),
-        ("coentrift_sum_long_rows", coentrift_sum_long_rows, LONG_ROW),
-    ];
+    let shown = |answer: u64| format!("{} above {}", answer >> 32, answer as u32);
+    Err(format!(
+        "{name}: the port {}, the Rust {}",
+        shown(ours),
+        shown(theirs)
+    ))
+}
+
+/// The same sums of a table with this data area, by each call; `outside` is the array that is a 13, if any.
+/// The number of cells.
+fn compare_sums(
+    case: &Case,
+    area: &[u8],
+    outside: Option<(usize, usize)>,
+    totals: &mut Totals,
+) -> Result<usize, String> {
+    let Table { header, choice, .. } = &case.table;
+    let (by_cells, cells) = rust_cells(&case.table, &case.file, outside);
+    let by_rows = rust_rows(&case.table, &case.file, outside.map(|place| place.0));
+    if by_rows >> 32 == 0 && by_rows != by_cells {
+        return Err("the Rust's rows are not its cells".to_string());
+    }
+    for ((name, sum), theirs) in SUMS.into_iter().zip([by_cells, by_cells, by_rows]) {
+        totals.summed += cells;
+        same(name, port_sum(sum, header, area, choice), theirs, totals)?;
+    }
+    Ok(cells)
+}
+
+/// The same steps and the same sums; the number of cells.
+fn compare(case: &Case, random: &mut Random, totals: &mut Totals) -> Result<usize, String> {
+    compare_steps(case, totals)?;
     let table = &case.table;
-    for (name, sum, longest) in sums {
-        // A list for the longest row is large, so it is made only where it is needed.
-        let needed = name != "coentrift_sum_long_rows" || whole.longest_row > ROW;
-        if needed && whole.longest_row <= longest {
-            let ours = port_sum(sum, &table.header, &table.area, &table.choice);
-            totals.summed += whole.cells;
-            if ours != whole.sum {
-                return Err(format!("{name}: the port {ours}, the Rust {}", whole.sum));
-            }
+    let layout = rust_layout(table, &case.file);
+    let ours = port_layout(&table.header, &table.area);
+    same("coentrift_layout", ours, layout, totals)?;
+    let cells = compare_sums(case, &table.area, None, totals)?;
+    compare_outside(case, random, totals)?;
+    compare_refusals(table, totals)?;
+    unnoticed(table, random, totals)?;
+    Ok(cells)
+}
+
+/// A followed array that ends past the heap ends the reads.
+fn compare_outside(case: &Case, random: &mut Random, totals: &mut Totals) -> Result<(), String> {
+    let table = &case.table;
+    let arrays = Places::of(table).arrays;
+    if !table.choice.heap || arrays.is_empty() {
+        return Ok(());
+    }
+    let (row, column) = (random.below(table.rows), arrays[random.below(arrays.len())]);
+    let mut area = table.area.clone();
+    // Its count becomes 2^30 or more.
+    area[table.field(row, column).start] = 0x40;
+    compare_sums(case, &area, Some((row, column)), totals).map(|_| ())
+}
+
+/// A refusal of the entry or of the opening, with no cell: a header cut short, no data, no column chosen.
+fn compare_refusals(table: &Table, totals: &mut Totals) -> Result<(), String> {
+    let Table {
+        header,
+        area,
+        choice,
+        ..
+    } = table;
+    let cut = &header[..header.len() - 1];
+    let none = Choice {
+        given: Some(vec![]),
+        ..choice.clone()
+    };
+    for (name, sum) in SUMS {
+        for (number, header, area, choice) in [
+            (1, cut, &area[..], choice),
+            (10, &header[..], &[][..], choice),
+            (11, &header[..], &area[..], &none),
+        ] {
+            let ours = port_sum(sum, header, area, choice);
+            same(name, ours, with_number(number, 0), totals)?;
         }
     }
-    unnoticed(table, random, &whole, totals)?;
-    Ok(whole)
+    for (number, header, area) in [(1, cut, &area[..]), (10, &header[..], &[][..])] {
+        let ours = port_layout(header, area);
+        same("coentrift_layout", ours, with_number(number, 0), totals)?;
+    }
+    Ok(())
 }
 
 /// One bit of a chosen field is changed; the sum must then differ.
-fn unnoticed(
-    table: &Table,
-    random: &mut Random,
-    whole: &Whole,
-    totals: &mut Totals,
-) -> Result<(), String> {
+fn unnoticed(table: &Table, random: &mut Random, totals: &mut Totals) -> Result<(), String> {
+    let Table { header, choice, .. } = table;
     let field = |column: &&usize| table.columns[**column].kind == Kind::Field;
-    let Some(column) = table.choice.columns.iter().find(field) else {
+    let Some(column) = choice.columns.iter().find(field) else {
         return Ok(());
     };
     let field = table.field(random.below(table.rows), *column);
     let mut area = table.area.clone();
     area[field.start + random.below(field.len())] ^= 1 << random.below(8);
     totals.changed += 1;
-    if port_sum(coentrift_sum_cells, &table.header, &area, &table.choice) == whole.sum {
+    let sums = [&table.area, &area].map(|area| port_sum(coentrift_sum_cells, header, area, choice));
+    if sums[0] == sums[1] {
         return Err("a changed bit goes unnoticed".to_string());
     }
     Ok(())
@@ -326,7 +455,7 @@ fn widest_row() -> Vec<(Kind, char, usize)> {
         .iter()
         .map(|(_, letter, count)| count * item_width(*letter))
         .sum();
-    forms.push((Kind::Field, 'B', LONG_ROW - width));
+    forms.push((Kind::Field, 'B', ROW_BYTES - width));
     forms
 }
 
@@ -360,7 +489,7 @@ fn large_tables() -> Vec<Large> {
     let long_arrays = vec![(P, 'J', 1), (Q, 'D', 1), (Field, 'B', 3)];
     vec![
         plain("a row of 1,048,576 bytes, one column", wide, 20),
-        plain("a row of 1,048,576 cells", vec![(Field, 'B', LONG_ROW)], 4),
+        plain("a row of 1,048,576 cells", vec![(Field, 'B', ROW_BYTES)], 4),
         plain("a row of 1,048,576 bytes, 64 columns", widest_row(), 6),
         plain("16,777,216 rows", vec![(Field, 'B', 1)], 16_777_216),
         plain("a million rows", short, 1_000_000),
@@ -398,7 +527,7 @@ fn compare_large(
         row_cells: ROW,
     };
     let case = Case::of(random, table, &lengths);
-    let whole = compare(&case, random, totals)?;
+    let cells = compare(&case, random, totals)?;
     let Table {
         row_width,
         rows,
@@ -407,14 +536,11 @@ fn compare_large(
         ..
     } = &case.table;
     Ok(format!(
-        "NAXIS1 {row_width}, {rows} rows, {} of {} columns, a heap of {heap} bytes, {}, {} steps, {} cells, \
-         the longest row of {}",
+        "NAXIS1 {row_width}, {rows} rows, {} of {} columns, a heap of {heap} bytes, {}, {} steps, {cells} cells",
         choice.columns.len(),
         large.forms.len(),
         if choice.heap { "followed" } else { "not followed" },
         case.replayed.told.len(),
-        whole.cells,
-        whole.longest_row
     ))
 }
 
@@ -443,28 +569,66 @@ fn run(seed: u64, tables: usize) -> Result<(), String> {
     Ok(())
 }
 
+fn on_small_stack<T: Send>(run: impl FnOnce() -> T + Send) -> T {
+    thread::scope(|scope| {
+        let thread = thread::Builder::new().stack_size(STACK);
+        let running = thread.spawn_scoped(scope, run).expect("a thread");
+        running.join().expect("no panic")
+    })
+}
+
+/// Each function of the library on a thread with a small stack, which must answer as on this one. Its name
+/// comes first, since a stack that is too small ends the program.
+fn small_stack(seed: u64) -> Result<(), String> {
+    let mut random = Random::new(seed);
+    let sizes = Sizes {
+        other_records: 300,
+        ..FEW
+    };
+    let forms = [(Kind::Field, 'B', ROW / 64); 64];
+    let table = Table::of(&mut random, &sizes, columns(&forms), 20, true);
+    let Table {
+        header,
+        area,
+        choice,
+        ..
+    } = &table;
+    let mut totals = Totals::default();
+    for (name, sum) in SUMS {
+        println!("{name}: a stack of {STACK} bytes");
+        let run = || port_sum(sum, header, area, choice);
+        same(name, on_small_stack(run), run(), &mut totals)?;
+    }
+    println!("coentrift_layout: a stack of {STACK} bytes");
+    let run = || port_layout(header, area);
+    same("coentrift_layout", on_small_stack(run), run(), &mut totals)?;
+    let file = [&header[..], &area[..]].concat();
+    let few = "heap off\ncell\nrow 512\nseek 7\ncell\nrow 512\n".to_string();
+    // As many indexes as a file of steps has room for.
+    let longest = format!("choose{}", " 0".repeat(32_765));
+    for (what, steps) in [("steps", few), ("a choice of 32,765 indexes", longest)] {
+        println!("coentrift_replay, {what}: a stack of {STACK} bytes");
+        let run = || replayed(&file, steps.as_bytes(), 65_536);
+        if on_small_stack(run) != run() {
+            return Err("coentrift_replay: another text".to_string());
+        }
+    }
+    Ok(())
+}
+
 fn main() {
-    let words: Vec<u64> = std::env::args()
-        .skip(1)
-        .filter_map(|word| word.parse().ok())
-        .collect();
-    let (seed, tables) = match words[..] {
-        [seed, tables] if seed > 0 => (seed, tables),
+    let words: Vec<String> = std::env::args().skip(1).collect();
+    let number = |word: &String| word.parse::<u64>().unwrap_or(0);
+    let done = match &words[..] {
+        [word, seed] if word == "stack" && number(seed) > 0 => small_stack(number(seed)),
+        [seed, tables] if number(seed) > 0 => run(number(seed), number(tables) as usize),
         _ => {
-            eprintln!("large SEED TABLES; no seed 0");
+            eprintln!("large SEED TABLES, large stack SEED; no seed 0");
             std::process::exit(2);
         }
     };
-    let thread = std::thread::Builder::new().stack_size(STACK);
-    let running = thread
-        .spawn(move || run(seed, tables as usize))
-        .expect("a thread");
-    match running.join() {
-        Ok(Ok(())) => {}
-        Ok(Err(text)) => {
-            println!("a difference: {text}");
-            std::process::exit(1);
-        }
-        Err(_) => std::process::exit(1),
+    if let Err(text) = done {
+        println!("a difference: {text}");
+        std::process::exit(1);
     }
 }

@@ -23,9 +23,11 @@ BLOCK = 2880
 # ---- what docs/FORMAT.md says of a header ----
 
 NINE = [b'XTENSION', b'BITPIX', b'NAXIS', b'NAXIS1', b'NAXIS2', b'PCOUNT', b'GCOUNT', b'TFIELDS', b'THEAP']
+
 TFORM = [b'TFORM%d' % n for n in range(1, 1000)]
 TTYPE = [b'TTYPE%d' % n for n in range(1, 1000)]
 USED = NINE + TFORM + TTYPE
+SLOTS = NINE + TFORM[:64] + TTYPE[:64]
 
 # A value field, bytes 11 to 80: spaces, the value, then spaces only or a comment after any spaces.
 INTEGER = re.compile(rb' *([+-]?[0-9]{1,18}) *(/.*)?', re.DOTALL)
@@ -82,10 +84,11 @@ def said_of(header):
     if end is None:
         return ['refused 2 0']
     names = [name_of(card) for card in records_of(header)[:end]]
-    places = [[k for k, name in enumerate(names) if name == used] for used in USED]
-    seconds = [found[1] for found in places if len(found) > 1]
+    places = {used: [k for k, name in enumerate(names) if name == used] for used in USED}
+    seconds = [found[1] for found in places.values() if len(found) > 1]
     lines = ['refused 3 %d' % min(seconds)] if seconds else ['passed']
-    for slot, found in enumerate(places):
+    for slot, used in enumerate(SLOTS):
+        found = places[used]
         if found:
             again = ' again %d' % found[1] if len(found) > 1 else ''
             lines.append('slot %d record %d %s%s' % (slot, found[0], value_of(header, found[0]), again))
@@ -252,6 +255,8 @@ def repeat_cases():
         [keyword('TFIELDS', '1'), last_form, keyword('TFORM998', '8'), last_form],
         [name, form, last_name, last_form, name],
         [last_name, keyword('TTYPE99', '8'), keyword('TTYPE9', '8'), keyword('TTYPE999', '')],
+        [keyword(at, '8') for at in ('TFORM64', 'TTYPE1', 'TFORM65', 'TTYPE64')],
+        [keyword(at, '8') for at in ('TTYPE64', 'TTYPE65', 'TTYPE65', 'TTYPE64')],
         [keyword('XTENSION', "'A'"), keyword('XTENSION', '8')],
         [heap, keyword('THEA', '1'), keyword('THEAPX', '1'), heap],
         [two] + [blank] * 33 + [three],
@@ -391,8 +396,8 @@ def random_value(rng):
 
 
 def random_good(rng, blocks):
-    """Records that pass: GOOD and some names more, once each, with other records between."""
-    names = rng.sample(TFORM[2:] + TTYPE[2:] + [b'THEAP'], rng.randrange(4, blocks * 36 - 16))
+    """Records that pass: GOOD and some names more, once each, most of them with a slot, with other records between."""
+    names = rng.sample(TFORM[2:80] + TTYPE[2:80] + [b'THEAP'], rng.randrange(4, blocks * 36 - 16))
     more = [keyword(name, random_value(rng)) for name in names]
     room = blocks * 36 - 1 - len(GOOD) - len(more)
     for _ in range(rng.randrange(room)):

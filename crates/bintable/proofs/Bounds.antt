@@ -9,9 +9,9 @@ use native.Mathlib.Omega.{arith}
 use lib.Dec.{leb}
 use borrow.Author.Tests.{leb-true}
 use Rattle.card.specs.declared.Value.{Value}
-use Rattle.keyword.specs.declared.Found.{Found}
-use Rattle.keyword.specs.declared.Found.the-variants.{At, Nothing}
-use Rattle.header.specs.Checks.{Outcome, accepted, refused, before}
+use Rattle.ascii.specs.declared.Found.{Found}
+use Rattle.ascii.specs.declared.Found.the-variants.{At, Nothing}
+use Rattle.refusal.specs.Refusal.{Outcome, accepted, refused, before}
 use Rattle.bintable.specs.Checks.{isInteger, notNegative, sizeIn, valueAt, recordFor, sizeFor, unless, check7, firstRefusal}
 use Rattle.bintable.specs.Entry.{limited, mainOf, nine}
 use Rattle.bintable.proofs.Nine.{sizes}

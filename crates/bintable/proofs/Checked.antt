@@ -7,7 +7,7 @@ use Prim.Native.Nat.{ℕ, _≤_, _<_}
 use lib.Dec.{leb}
 use borrow.Author.Tests.{le-leb, lt-leb}
 use Rattle.card.specs.declared.Value.{Value}
-use Rattle.header.specs.Checks.{Outcome, accepted, refused, before}
+use Rattle.refusal.specs.Refusal.{Outcome, accepted, refused, before}
 use Rattle.bintable.specs.Checks.{notNegative, sizeIn, within, firstRefusal}
 
 module _ (low high : ℕ) (v : Value) where

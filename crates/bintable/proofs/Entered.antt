@@ -3,12 +3,14 @@
 use mathlib.Core.Path.{_≡_, refl, sym, _∙_, subst}
 use mathlib.Core.Bool.{cond}
 use mathlib.Core.List.{List, _++_}
-use Prim.Native.Nat.{ℕ, _+_, _-_, _*_, _^_, _≤_, _<_}
+use Prim.Native.Nat.{ℕ, _-_, _*_, _^_, _≤_, _<_}
 use native.Mathlib.Omega.{arith}
 use lib.Dec.{eqb}
 use lib.ListN.{length, take, replicate}
 use lib.Seq.{take-append-seam}
-use Rattle.header.specs.Checks.{Outcome, accepted, refused, before, checked}
+use Rattle.keyword.specs.Names.{indexLimit}
+use Rattle.refusal.specs.Refusal.{Outcome, accepted, refused, before}
+use Rattle.header.specs.Checks.{checked}
 use Rattle.header.proofs.Lengths.{length-small}
 use Rattle.header.proofs.Lookup.{accepted-length}
 use Rattle.layout.specs.Layout.{noColumn, rowBytes, columnsOf}
@@ -40,7 +42,7 @@ module _ (h : List ℕ) where
 
   pub nine-tfields : nineChecks h ≡ accepted → sizeFor h "TFIELDS" ≤ 64
   unfolding nine
-  nine-tfields e = let a = first-accepted _ _ (nine-both e .1) in value-limit h (recordFor h "TFIELDS") isInteger (within 0 999) 64 (first-accepted _ _ (a .1) .0)
+  nine-tfields e = let a = first-accepted _ _ (nine-both e .1) in value-limit h (recordFor h "TFIELDS") isInteger (within 0 indexLimit) 64 (first-accepted _ _ (a .1) .0)
 
   -- the columns of the layout
   pub columns-of : columnsOf (layoutOf h) ≡ columnsTo h (sizeFor h "TFIELDS")

@@ -11,10 +11,10 @@ use lib.ListN.{length, replicate, set}
 use lib.Seq.{set-at}
 use Rattle.card.specs.declared.Value.the-variants.{String}
 use Rattle.card.proofs.Inside.{value-inside}
-use Rattle.keyword.specs.declared.Found.{Found}
-use Rattle.keyword.specs.declared.Found.the-variants.{At, Nothing}
+use Rattle.ascii.specs.declared.Found.{Found}
+use Rattle.ascii.specs.declared.Found.the-variants.{At, Nothing}
 use Rattle.keyword.specs.Names.{range}
-use Rattle.header.specs.Checks.{accepted, before}
+use Rattle.refusal.specs.Refusal.{accepted, before}
 use Rattle.tform.specs.declared.TForm.{TForm}
 use Rattle.tform.specs.Width.{countOk}
 use Rattle.tform.specs.Form.{formOf}

@@ -1,22 +1,26 @@
 -- The record that the header's index has for each name.
 -- Assumes nothing.
 use mathlib.Core.Path.{_≡_, _∙_, ap}
-use mathlib.Core.List.{List, []}
+use mathlib.Core.List.{List, [], _++_}
 use Prim.Native.Nat.{ℕ, _+_, _<_}
 use native.Mathlib.Omega.{arith}
-use lib.ListN.{getD}
-use Rattle.keyword.specs.Names.{single, usedNames}
-use Rattle.keyword.proofs.Slots.{single-slot, tform-slot, ttype-slot}
+use lib.ListN.{length, getD}
+use Rattle.keyword.specs.Names.{numeral, columnSlots, single, onceRoots, otherRoots, roots, slotNames}
+use Rattle.keyword.proofs.Slots.{firstSlot, slots-length, single-name, rooted-name, rooted-inside}
 use Rattle.header.specs.Checks.{recordOf, placed, indexBy}
 use Rattle.header.proofs.Lookup.{slot-place}
 use Rattle.bintable.specs.Checks.{recordFor, tformOf, ttypeOf}
 
 module _ (h first : List ℕ) (e : first ≡ indexBy (recordOf h)) where
-  at-slot : (s : ℕ) → s < 2007 → placed (getD first s 0) ≡ recordOf h (getD usedNames s [])
+  at-slot : (s : ℕ) → s < length slotNames → placed (getD first s 0) ≡ recordOf h (getD slotNames s [])
   at-slot s l = rw e (slot-place (recordOf h) s l)
 
-  at-single : (s : ℕ) → s < 9 → placed (getD first s 0) ≡ recordOf h (getD single s [])
-  at-single s l = at-slot s (omega arith) ∙ ap (recordOf h) (single-slot s l)
+  at-single : (s : ℕ) → s < length single → placed (getD first s 0) ≡ recordOf h (getD single s [])
+  at-single s l = at-slot s (omega (arith, slots-length)) ∙ ap (recordOf h) (single-name s l)
+
+  -- root r with column i, from 0
+  at-root : (r i : ℕ) → r < length roots → i < columnSlots → placed (getD first (firstSlot r + i) 0) ≡ recordOf h (getD roots r [] ++ numeral (i + 1))
+  at-root r i p l = at-slot (firstSlot r + i) (rooted-inside r i p l) ∙ ap (recordOf h) (rooted-name r i p l)
 
   pub at-xtension : placed (getD first 0 0) ≡ recordFor h "XTENSION"
   unfolding single
@@ -54,13 +58,10 @@ module _ (h first : List ℕ) (e : first ≡ indexBy (recordOf h)) where
   unfolding single
   at-theap = at-single 8 (omega arith)
 
-  -- column i, from 0
-  pub at-tform : (i : ℕ) → i < 999 → placed (getD first (9 + i) 0) ≡ tformOf h (i + 1)
-  at-tform i l =
-      ap (λ (s : ℕ). placed (getD first s 0)) (omega arith) ∙ (at-slot (8 + (i + 1)) (omega arith)
-      ∙ ap (recordOf h) (tform-slot (i + 1) (omega arith) (omega arith)))
+  pub at-tform : (i : ℕ) → i < columnSlots → placed (getD first (firstSlot 0 + i) 0) ≡ tformOf h (i + 1)
+  unfolding onceRoots otherRoots
+  at-tform i l = at-root 0 i (omega arith) l
 
-  pub at-ttype : (i : ℕ) → i < 999 → placed (getD first (1008 + i) 0) ≡ ttypeOf h (i + 1)
-  at-ttype i l =
-      ap (λ (s : ℕ). placed (getD first s 0)) (omega arith) ∙ (at-slot (1007 + (i + 1)) (omega arith)
-      ∙ ap (recordOf h) (ttype-slot (i + 1) (omega arith) (omega arith)))
+  pub at-ttype : (i : ℕ) → i < columnSlots → placed (getD first (firstSlot 1 + i) 0) ≡ ttypeOf h (i + 1)
+  unfolding onceRoots otherRoots
+  at-ttype i l = at-root 1 i (omega arith) l

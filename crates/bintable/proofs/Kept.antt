@@ -8,22 +8,22 @@ use native.Mathlib.Omega.{arith}
 use lib.Dec.{eqb, leb}
 use lib.ListN.{length}
 use borrow.Author.Tests.{eq-eqb, le-leb, leb-true}
-use Rattle.card.proofs.Cases.{both}
-use Rattle.keyword.specs.declared.Found.{Found}
-use Rattle.keyword.specs.declared.Found.the-variants.{At, Nothing}
-use Rattle.header.specs.Checks.{Outcome, before, checked}
+use Rattle.ascii.proofs.Cases.{both}
+use Rattle.ascii.specs.declared.Found.{Found}
+use Rattle.ascii.specs.declared.Found.the-variants.{At, Nothing}
+use Rattle.refusal.specs.Refusal.{Outcome, before, outcomeOf}
+use Rattle.header.specs.Checks.{checked}
 use Rattle.layout.specs.declared.Column.{Column}
 use Rattle.layout.specs.declared.BinTable.{BinTable}
-use Rattle.layout.specs.declared.Check.{Check}
-use Rattle.layout.specs.declared.Check.the-variants.{Passed}
-use Rattle.layout.specs.Refusal.{outcomeOf}
+use Rattle.refusal.specs.declared.Check.{Check}
+use Rattle.refusal.specs.declared.Check.the-variants.{Passed}
 use Rattle.layout.specs.Layout.{columnBytes, rowBytes, columnsOf, mainSize, dataSize, columnsOk, layoutOk}
 use Rattle.bintable.specs.Checks.{notNegative, sizeIn, within, textIn, valueAt, recordFor, sizeFor, tformOf}
 use Rattle.bintable.specs.Entry.{mainOf, theapCheck, theapIn, nine, nineChecks, columnChecks, columnsFrom, layoutOf, check9, check10, allChecks, accepted, entryBy, entry, layoutIn}
 use Rattle.bintable.proofs.Bounds.{refused-not, both-accepted, first-accepted, unless-holds, size-limits}
 use Rattle.bintable.proofs.Filled.{form-count, columnOf}
 use Rattle.bintable.proofs.Entered.{nine-sizes, nine-rest, nine-tfields, columns-of, entry-parts}
-use Rattle.header.specs.Checks as O
+use Rattle.refusal.specs.Refusal as O
 
 -- a check that passes holds
 passes : (t : Bool) (n p : ℕ) → cond t O.accepted (O.refused n p) ≡ O.accepted → t ≡ true

@@ -4,7 +4,7 @@ use mathlib.Core.Path.{_≡_, _∙_, ap, sym}
 use mathlib.Core.List.{List, _++_}
 use lib.ListN.{take, drop}
 use Prim.Native.Nat.{ℕ}
-use Rattle.header.specs.Checks.{Outcome, before}
+use Rattle.refusal.specs.Refusal.{Outcome, before}
 use Rattle.bintable.specs.Checks.{firstRefusal}
 use Rattle.bintable.specs.Entry.{nine, nineChecks}
 use Rattle.bintable.proofs.Checked.{before-assoc, first-append}

@@ -10,8 +10,8 @@ use borrow.Author.Tests.{le-leb}
 use Rattle.card.specs.declared.Value.{Value}
 use Rattle.card.specs.declared.Value.the-variants.{Integer, String, Invalid}
 use Rattle.card.proofs.Inside.{value-inside}
-use Rattle.keyword.specs.declared.Found.{Found}
-use Rattle.keyword.specs.declared.Found.the-variants.{At, Nothing}
+use Rattle.ascii.specs.declared.Found.{Found}
+use Rattle.ascii.specs.declared.Found.the-variants.{At, Nothing}
 use Rattle.layout.specs.Layout.{noColumn, columnBytes}
 use Rattle.layout.specs.Names.{partOf, columnName}
 use Rattle.layout.proofs.Named.{name-at}

@@ -10,13 +10,14 @@ use lib.IntN.{pos, negsuc}
 use Rattle.card.specs.declared.Value.{Value}
 use Rattle.card.specs.declared.Value.the-variants.{Integer, Invalid}
 use Rattle.card.specs.declared.Value.the-variants as Val
-use Rattle.card.specs.Text.{bytes}
+use Rattle.ascii.specs.Text.{bytes}
 use Rattle.card.specs.Value.{valueOf}
-use Rattle.keyword.specs.declared.Found.{Found}
-use Rattle.keyword.specs.declared.Found.the-variants.{At, Nothing}
+use Rattle.ascii.specs.declared.Found.{Found}
+use Rattle.ascii.specs.declared.Found.the-variants.{At, Nothing}
 use Rattle.keyword.specs.Names.{numeral}
 use Rattle.header.specs.Records.{found}
-use Rattle.header.specs.Checks.{Outcome, accepted, refused, before, recordOf}
+use Rattle.refusal.specs.Refusal.{Outcome, accepted, refused, before}
+use Rattle.header.specs.Checks.{recordOf}
 use Rattle.tform.specs.declared.TForm.{TForm}
 use Rattle.tform.specs.declared.TForm.the-variants as T
 

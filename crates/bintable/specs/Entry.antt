@@ -7,12 +7,13 @@ use lib.ListN.{length, replicate}
 use lib.Dec.{eqb, leb}
 use Rattle.card.specs.declared.Value.{Value}
 use Rattle.card.specs.declared.Value.the-variants.{Integer, String, Invalid}
-use Rattle.card.specs.Text.{bytes, same}
-use Rattle.keyword.specs.declared.Found.{Found}
-use Rattle.keyword.specs.declared.Found.the-variants.{At, Nothing}
-use Rattle.keyword.specs.Names.{range}
-use Rattle.header.specs.Checks.{Outcome, before, checked}
-use Rattle.header.specs.Checks as O
+use Rattle.ascii.specs.Text.{bytes, same}
+use Rattle.ascii.specs.declared.Found.{Found}
+use Rattle.ascii.specs.declared.Found.the-variants.{At, Nothing}
+use Rattle.keyword.specs.Names.{range, indexLimit}
+use Rattle.refusal.specs.Refusal.{Outcome, before}
+use Rattle.header.specs.Checks.{checked}
+use Rattle.refusal.specs.Refusal as O
 use Rattle.tform.specs.declared.VariableArrayTy.the-variants.{L}
 use Rattle.tform.specs.declared.TFormType.{TFormType}
 use Rattle.tform.specs.declared.TFormType.the-variants.{Items}
@@ -55,7 +56,7 @@ nine h =
     ∷ limited h (recordFor h "NAXIS2") isInteger notNegative naxis2Limit
     ∷ limited h (recordFor h "PCOUNT") isInteger notNegative pcountLimit
     ∷ required h (recordFor h "GCOUNT") isInteger (within 1 1)
-    ∷ limited h (recordFor h "TFIELDS") isInteger (within 0 999) tfieldsLimit
+    ∷ limited h (recordFor h "TFIELDS") isInteger (within 0 indexLimit) tfieldsLimit
     ∷ theapCheck h (recordFor h "THEAP") (mainOf h) (sizeFor h "PCOUNT")
     ∷ []
 

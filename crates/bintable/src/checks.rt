@@ -1,26 +1,13 @@
 // The checks of one record and its value, each by its number in docs/FORMAT.md, section 10.
 ghost use mathlib.Core.Path.{_≡_};
 ghost use Rattle.card.specs.declared.Value.the-variants.{Integer};
-ghost use Rattle.header.specs.Checks.{before, outcome};
-ghost use Rattle.layout.specs.Refusal.{outcomeOf};
+ghost use Rattle.refusal.specs.Refusal.{before, outcomeOf};
 ghost use Rattle.bintable.specs.Checks.{isInteger, isString, notNegative, sizeIn, within, valueAt, check4, check5, check6, check7, check8};
+use ascii::Found;
 use card::Value;
-use header::HeaderCheck;
-use keyword::Found;
-use layout::Check;
-use layout::Refusal;
+use refusal::Check;
+use refusal::Refusal;
 use tform::TForm;
-
-pub fn header_check(check: HeaderCheck) -> Check
-    ensures { λ r. ⌜ outcomeOf r ≡ outcome check ⌝ }
-{
-    match check {
-        HeaderCheck::Passed => Check::Passed,
-        HeaderCheck::BadLength => Check::Refused(Refusal::BadLength),
-        HeaderCheck::MissingEnd => Check::Refused(Refusal::MissingEnd),
-        HeaderCheck::RepeatedName { record } => Check::Refused(Refusal::RepeatedName { record }),
-    }
-}
 
 // The first refusal of two checks.
 pub fn before(first: Check, second: Check) -> Check

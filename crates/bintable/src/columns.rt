@@ -6,23 +6,24 @@ ghost use Prim.Native.Nat.{ℕ, _+_, _-_, _≤_, _<_, _^_};
 ghost use lib.Dec.{eqb, leb};
 ghost use lib.ListN.{length, replicate};
 ghost use Rattle.card.specs.declared.Value.the-variants.{String};
-ghost use Rattle.header.specs.Checks.{recordOf, indexBy, accepted, refused, before, checked};
-ghost use Rattle.layout.specs.declared.Check.the-variants.{Refused};
-ghost use Rattle.layout.specs.Refusal.{outcomeOf};
-ghost use Rattle.layout.specs.Layout.{noColumn, emptyLayout, rowBytes};
+ghost use Rattle.keyword.specs.Names.{columnSlots};
+ghost use Rattle.refusal.specs.Refusal.{accepted, refused, before, outcomeOf};
+ghost use Rattle.header.specs.Checks.{recordOf, indexBy, checked};
+ghost use Rattle.refusal.specs.declared.Check.the-variants.{Refused};
+ghost use Rattle.layout.specs.Layout.{tfieldsLimit, noColumn, emptyLayout, rowBytes};
 ghost use Rattle.bintable.specs.Checks.{sizeFor};
 ghost use Rattle.bintable.specs.Entry.{columnCheck, columnChecks, typeIn, countIn, nameIn, theapIn, columnAt, columnsFrom, nineChecks, layoutOf, check9, allChecks, entryBy, entry, layoutIn};
 use super::Parsed;
 use super::checks;
 use super::text;
+use ascii::Found;
 use card::Value;
-use keyword::Found;
 use layout::BinTable;
-use layout::Check;
 use layout::Column;
 use layout::Name;
-use layout::Refusal;
 use layout::TFIELDS_LIMIT;
+use refusal::Check;
+use refusal::Refusal;
 use tform::TForm;
 use tform::TFormType;
 use tform::VariableArrayTy;
@@ -112,7 +113,7 @@ fn name_in(value: Value) -> Name
 
 // Column i, from 0, which starts at byte `start` of a row.
 fn read_column(header: &[u8], first: &[u16], i: usize, start: u64) -> ReadColumn
-    requires { ⌜ (now first ≡ indexBy (recordOf (now header))) × ((length (now header) < 2 ^ 32) × (i < 999)) ⌝ }
+    requires { ⌜ (now first ≡ indexBy (recordOf (now header))) × ((length (now header) < 2 ^ 32) × (i < columnSlots)) ⌝ }
     ensures check { λ r. ⌜ outcomeOf (r .check) ≡ columnCheck (now (header .entry)) (i + 1) ⌝ }
     ensures column { λ r. ⌜ r .column ≡ columnAt (now (header .entry)) (i + 1) start ⌝ }
 {
@@ -136,9 +137,9 @@ fn read_column(header: &[u8], first: &[u16], i: usize, start: u64) -> ReadColumn
 }
 
 fn read_columns(header: &[u8], first: &[u16], tfields: usize) -> ReadColumns
-    requires { ⌜ (now first ≡ indexBy (recordOf (now header))) × ((length (now header) < 2 ^ 32) × (tfields ≤ 64)) ⌝ }
+    requires { ⌜ (now first ≡ indexBy (recordOf (now header))) × ((length (now header) < 2 ^ 32) × (tfields ≤ tfieldsLimit)) ⌝ }
     ensures check { λ r. ⌜ outcomeOf (r .check) ≡ columnChecks (now (header .entry)) tfields ⌝ }
-    ensures columns { λ r. ⌜ r .columns ≡ columnsFrom (now (header .entry)) 0 1 tfields ++ replicate (64 - tfields) noColumn ⌝ }
+    ensures columns { λ r. ⌜ r .columns ≡ columnsFrom (now (header .entry)) 0 1 tfields ++ replicate (tfieldsLimit - tfields) noColumn ⌝ }
     ensures bytes { λ r. ⌜ r .bytes ≡ rowBytes (columnsFrom (now (header .entry)) 0 1 tfields) ⌝ }
 {
     let none = no_column();

@@ -4,20 +4,22 @@ ghost use mathlib.Core.List.{[], _∷_};
 ghost use Prim.Native.Nat.{_+_, _<_, _^_};
 ghost use lib.ListN.{take, drop};
 ghost use Rattle.card.specs.declared.Value.{Value};
-ghost use Rattle.card.specs.Text.{bytes, same};
-ghost use Rattle.header.specs.Checks.{recordOf, indexBy, accepted};
+ghost use Rattle.ascii.specs.Text.{bytes, same};
+ghost use Rattle.keyword.specs.Names.{indexLimit};
+ghost use Rattle.refusal.specs.Refusal.{accepted, outcomeOf};
+ghost use Rattle.header.specs.Checks.{recordOf, indexBy};
 ghost use Rattle.layout.specs.Layout.{tfieldsLimit};
-ghost use Rattle.layout.specs.Refusal.{outcomeOf};
 ghost use Rattle.bintable.specs.Checks.{isInteger, isString, notNegative, within, textIn, check4, check5, check6, firstRefusal};
 ghost use Rattle.bintable.specs.Entry.{required, limited, theapCheck, nine, nineChecks};
 use super::checks;
 use super::text;
-use keyword::Found;
-use layout::Check;
+use ascii::Found;
+use keyword::INDEX_LIMIT;
 use layout::NAXIS1_LIMIT;
 use layout::NAXIS2_LIMIT;
 use layout::PCOUNT_LIMIT;
 use layout::TFIELDS_LIMIT;
+use refusal::Check;
 
 // A name that must be there, by 4, 5 and 6.
 fn check_required(found: Found, kind: bool, right: bool) -> Check
@@ -33,7 +35,7 @@ fn check_xtension(header: &[u8], found: Found) -> Check
     ensures { λ r. ⌜ outcomeOf r ≡ required (now (header .entry)) found isString (λ (v : Value). same (textIn (now (header .entry)) v) (bytes "BINTABLE")) ⌝ }
 {
     let value = checks::value_of(header, found);
-    let right = card::same_bytes(text::text_of(header, value), b"BINTABLE");
+    let right = ascii::same_bytes(text::text_of(header, value), b"BINTABLE");
     check_required(found, checks::is_string(value), right)
 }
 
@@ -57,10 +59,10 @@ fn check_size(header: &[u8], found: Found, limit: u64) -> Check
 }
 
 fn check_tfields(header: &[u8], found: Found) -> Check
-    ensures { λ r. ⌜ outcomeOf r ≡ limited (now (header .entry)) found isInteger (within 0 999) tfieldsLimit ⌝ }
+    ensures { λ r. ⌜ outcomeOf r ≡ limited (now (header .entry)) found isInteger (within 0 indexLimit) tfieldsLimit ⌝ }
 {
     let value = checks::value_of(header, found);
-    let right = checks::is_within(value, 0, 999);
+    let right = checks::is_within(value, 0, INDEX_LIMIT as u64);
     let c456 = check_required(found, checks::is_integer(value), right);
     checks::before(c456, checks::check7(TFIELDS_LIMIT as u64, value, found))
 }

@@ -5,10 +5,10 @@ mod keywords;
 mod text;
 
 ghost use mathlib.Core.Path.{_≡_};
-ghost use Rattle.layout.specs.Refusal.{outcomeOf};
+ghost use Rattle.refusal.specs.Refusal.{outcomeOf};
 ghost use Rattle.bintable.specs.Entry.{allChecks, entry, layoutIn};
 use layout::BinTable;
-use layout::Check;
+use refusal::Check;
 
 // The layout stands beside `Passed`; beside a refusal stands the empty one.
 pub struct Parsed {
@@ -22,9 +22,8 @@ pub fn parse(header: &[u8], area: &[u8]) -> Parsed
     ensures layout { λ r. ⌜ r .layout ≡ layoutIn (entry (now (header .entry)) (now (area .entry))) ⌝ }
 {
     let parsed = header::parse(header);
-    let of_header = parsed.check;
+    let whole = parsed.check;
     let first = parsed.first;
-    let whole = checks::header_check(of_header);
     let nine = keywords::check_nine(header, &first);
     let check = checks::before(whole, nine);
     match check {

@@ -1,4 +1,4 @@
--- How the search for the quote that closes a string goes on at a place of the list.
+-- How the search for the quote that closes a string goes on at a place of the list, and what may come after a value.
 -- Assumes nothing.
 use mathlib.Core.Path.{_≡_}
 use mathlib.Core.List.{List, [], _∷_}
@@ -8,10 +8,11 @@ use native.Mathlib.Nat.{add-zero}
 use native.Mathlib.Numerals.{add-one, add-two}
 use native.Mathlib.Omega.{arith}
 use lib.ListN.{length, drop, getD, drop-of-length-le}
-use lib.Seq.{drop-cons, getD-drop, drop-drop}
+use lib.Seq.{drop-cons, getD-drop, drop-drop, drop-length}
 use lib.Dec.{eqb}
-use Rattle.card.specs.Text.{closing}
-use Rattle.card.proofs.Cases.{by-test}
+use Rattle.ascii.specs.Text.{front, space}
+use Rattle.card.specs.Ends.{follows, closing}
+use Rattle.ascii.proofs.Cases.{by-test}
 
 other : (b : ℕ) (bs : List ℕ) → eqb b 39 ≡ false → closing (b ∷ bs) ≡ suc (closing bs)
 unfolding closing
@@ -56,3 +57,12 @@ closing-le (b ∷ c ∷ cs) =
     by-test (λ (n : ℕ). n ≤ suc (suc (length cs))) (eqb b 39)
     (λ e. by-test (λ (n : ℕ). n ≤ suc (suc (length cs))) (eqb c 39) (λ f. omega (arith, closing-le cs)) (λ f. omega arith))
     (λ e. omega (arith, closing-le (c ∷ cs)))
+
+module _ (s : List ℕ) where
+  pub follows-none : front space s ≡ length s → follows s ≡ true
+  unfolding follows
+  follows-none e = rw (e, drop-length s)
+
+  pub follows-at : front space s < length s → follows s ≡ eqb (getD s (front space s) 0) 47
+  unfolding follows
+  follows-at h = rw (drop-cons s (front space s) 0 h)

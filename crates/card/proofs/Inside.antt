@@ -10,12 +10,13 @@ use lib.Dec.{ltb, leb, eqb}
 use lib.IntN.{ℤ}
 use borrow.Author.Tests.{ltb-true}
 use Rattle.card.specs.declared.Value.the-variants.{Integer, String, Invalid}
-use Rattle.card.specs.Text.{bytes, same, front, space, digit, trim, follows, closing}
+use Rattle.ascii.specs.Text.{bytes, same, front, space, digit, trim}
+use Rattle.card.specs.Ends.{follows, closing}
 use Rattle.card.specs.Record.{cardAt, hasValue}
 use Rattle.card.specs.Value.{digitsValue, integerValue, stringValue, valueFrom, fieldValue, valueOf}
-use Rattle.card.proofs.Cases.{either}
-use Rattle.card.proofs.Front.{front-le}
-use Rattle.card.proofs.Spaces.{trimmed-le}
+use Rattle.ascii.proofs.Cases.{either}
+use Rattle.ascii.proofs.Front.{front-le}
+use Rattle.ascii.proofs.Spaces.{trimmed-le}
 
 module _ (a n : ℕ) where
   integer-other : (z : ℤ) → Integer z ≡ String a n → ⊥

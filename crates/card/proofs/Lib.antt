@@ -1,12 +1,5 @@
-pub mod Cases
-pub mod Scan
-pub mod Front
-pub mod Spaces
 pub mod Closing
-pub mod Decimal
 pub mod Negated
-pub mod Parts
 pub mod Values
-pub mod Same
 pub mod Records
 pub mod Inside

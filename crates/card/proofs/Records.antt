@@ -9,11 +9,11 @@ use lib.ListN.{length, take, drop, getD, replicate, length-take, length-drop}
 use lib.Seq.{drop-cons}
 use lib.Dec.{ltb, eqb}
 use borrow.Author.Tests.{ltb-true, lt-ltb}
-use Rattle.card.specs.Text.{bytes, same, spaces, trim}
+use Rattle.ascii.specs.Text.{bytes, same, spaces, trim}
 use Rattle.card.specs.Record.{cardAt, isEnd, hasValue, nameOf}
-use Rattle.card.proofs.Cases.{either}
-use Rattle.card.proofs.Same.{same-length, same-differ, same-next}
-use Rattle.card.proofs.Spaces.{spaces-same}
+use Rattle.ascii.proofs.Cases.{either}
+use Rattle.ascii.proofs.Same.{same-length, same-differ, same-next}
+use Rattle.ascii.proofs.Spaces.{spaces-same}
 
 module _ (s : List ℕ) where
   pub end-length : (length s ≡ 80 → ⊥) → isEnd s ≡ false

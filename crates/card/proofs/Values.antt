@@ -9,7 +9,8 @@ use lib.ListN.{length, take, drop, getD}
 use lib.Dec.{ltb, leb}
 use borrow.Author.Tests.{lt-ltb, le-ltb, le-leb, lt-leb, ne-eqb}
 use Rattle.card.specs.declared.Value.the-variants.{Integer, String, Invalid}
-use Rattle.card.specs.Text.{front, digit, follows, decimal, closing, trim}
+use Rattle.ascii.specs.Text.{front, digit, decimal, trim}
+use Rattle.card.specs.Ends.{follows, closing}
 use Rattle.card.specs.Value.{signed, digitsValue, integerValue, stringValue, valueFrom, fieldValue, valueOf}
 use Rattle.card.specs.Record.{cardAt, hasValue}
 

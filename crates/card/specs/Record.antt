@@ -5,7 +5,7 @@ use mathlib.Core.List.{List, [], _++_}
 use mathlib.Core.Bool.{Bool, cond}
 use lib.ListN.{length, take, drop, replicate}
 use lib.Dec.{ltb}
-use Rattle.card.specs.Text.{bytes, same, trim}
+use Rattle.ascii.specs.Text.{bytes, same, trim}
 
 -- record k; a number past the last whole record gives a blank one
 unfoldable pub cardAt : List ℕ → ℕ → List ℕ

@@ -8,7 +8,8 @@ use lib.Dec.{eqb, ltb, leb}
 use lib.IntN.{ℤ, pos, negℤ}
 use Rattle.card.specs.declared.Value.{Value}
 use Rattle.card.specs.declared.Value.the-variants.{Integer, String, Invalid}
-use Rattle.card.specs.Text.{front, space, digit, trim, follows, decimal, closing}
+use Rattle.ascii.specs.Text.{front, space, digit, trim, decimal}
+use Rattle.card.specs.Ends.{follows, closing}
 use Rattle.card.specs.Record.{cardAt, hasValue}
 
 -- n, or with a minus its negative

@@ -3,7 +3,7 @@ ghost use mathlib.Core.Path.{_≡_};
 ghost use Prim.Native.Nat.{_+_, _≤_, _<_, _^_};
 ghost use lib.ListN.{length, take};
 ghost use Rattle.card.specs.declared.Value.the-variants.{Integer};
-ghost use Rattle.card.specs.Text.{front, digit, decimal};
+ghost use Rattle.ascii.specs.Text.{front, digit, decimal};
 ghost use Rattle.card.specs.Value.{signed, digitsValue, integerValue, stringValue, valueFrom, fieldValue};
 use super::Value;
 use super::text;
@@ -36,7 +36,7 @@ fn signed_value(n: u64, minus: bool) -> Value
 fn digits_value(s: &[u8], minus: bool) -> Value
     ensures { λ r. ⌜ r ≡ digitsValue minus (now (s .entry)) ⌝ }
 {
-    let n = text::leading_digits(s);
+    let n = ascii::leading_digits(s);
     if n == 0 {
         return Value::Invalid;
     }
@@ -75,7 +75,7 @@ fn string_value(s: &[u8], start: usize) -> Value
     if !text::may_follow(&s[after..]) {
         return Value::Invalid;
     }
-    let len = text::trimmed_len(&s[0..n]);
+    let len = ascii::trimmed_len(&s[0..n]);
     Value::String { start, len }
 }
 
@@ -96,6 +96,6 @@ pub fn field_value(f: &[u8], start: usize) -> Value
     requires { ⌜ start + length (now f) < 2 ^ 64 ⌝ }
     ensures { λ r. ⌜ r ≡ fieldValue start (now (f .entry)) ⌝ }
 {
-    let n = text::leading_spaces(f);
+    let n = ascii::leading_spaces(f);
     value_from(&f[n..], start + n)
 }

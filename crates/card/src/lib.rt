@@ -3,7 +3,7 @@
 // Every call takes the whole header and a record's number, from 0. A number past the last whole
 // record reads as a blank record.
 mod field;
-pub mod text;
+mod text;
 
 ghost use mathlib.Core.Path.{_≡_};
 ghost use mathlib.Core.List.{[]};
@@ -12,7 +12,6 @@ ghost use Prim.Native.Nat.{_*_, _/_};
 ghost use lib.Dec.{ltb};
 ghost use lib.ListN.{length, take, drop};
 ghost use Rattle.card.specs.Record.{cardAt, isEnd, hasValue, nameOf};
-ghost use Rattle.card.specs.Text.{same};
 ghost use Rattle.card.specs.Value.{valueOf};
 
 // What a record's value field says. A string is the stretch of the header between its quotes, with
@@ -60,25 +59,8 @@ pub fn name(header: &[u8], number: usize) -> &[u8]
     if !text::value_indicator(card) {
         return &card[0..0];
     }
-    let len = text::trimmed_len(&card[0..8]);
+    let len = ascii::trimmed_len(&card[0..8]);
     &card[0..len]
-}
-
-// Whether two runs of bytes are the same.
-pub fn same_bytes(a: &[u8], b: &[u8]) -> bool
-    ensures { λ r. ⌜ r ≡ same (now (a .entry)) (now (b .entry)) ⌝ }
-{
-    if a.len() != b.len() {
-        return false;
-    }
-    let mut i: usize = 0;
-    while i < a.len() {
-        if a[i] != b[i] {
-            return false;
-        }
-        i += 1;
-    }
-    true
 }
 
 // The record's value.

@@ -1,67 +1,16 @@
-// Runs of bytes: spaces, digits, quotes. All of these answer on any bytes.
+// Where a string ends, what may come after a value, and the records that are END or hold a value. All answer on any bytes.
 ghost use mathlib.Core.Path.{_≡_};
 ghost use Prim.Native.Nat.{_+_};
 ghost use lib.Dec.{eqb};
-ghost use lib.ListN.{length, getD};
-ghost use Rattle.card.specs.Text.{front, space, digit, spaces, trim, follows, closing};
+ghost use lib.ListN.{getD};
+ghost use Rattle.card.specs.Ends.{follows, closing};
 ghost use Rattle.card.specs.Record.{isEnd, hasValue};
-
-// How many spaces stand at the front.
-pub fn leading_spaces(s: &[u8]) -> usize
-    ensures { λ r. ⌜ r ≡ front space (now (s .entry)) ⌝ }
-{
-    let mut i: usize = 0;
-    while i < s.len() {
-        if s[i] != 32 {
-            return i;
-        }
-        i += 1;
-    }
-    i
-}
-
-// How many digits stand at the front.
-pub fn leading_digits(s: &[u8]) -> usize
-    ensures { λ r. ⌜ r ≡ front digit (now (s .entry)) ⌝ }
-{
-    let mut i: usize = 0;
-    while i < s.len() {
-        if s[i] < 48 {
-            return i;
-        }
-        if 57 < s[i] {
-            return i;
-        }
-        i += 1;
-    }
-    i
-}
-
-pub fn all_spaces(s: &[u8]) -> bool
-    ensures { λ r. ⌜ r ≡ spaces (now (s .entry)) ⌝ }
-{
-    leading_spaces(s) == s.len()
-}
-
-// The length without trailing spaces.
-pub fn trimmed_len(s: &[u8]) -> usize
-    ensures { λ r. ⌜ r ≡ length (trim (now (s .entry))) ⌝ }
-{
-    let mut n = s.len();
-    while 0 < n {
-        if s[n - 1] != 32 {
-            return n;
-        }
-        n -= 1;
-    }
-    0
-}
 
 // Whether these bytes may come after a value.
 pub fn may_follow(s: &[u8]) -> bool
     ensures { λ r. ⌜ r ≡ follows (now (s .entry)) ⌝ }
 {
-    let n = leading_spaces(s);
+    let n = ascii::leading_spaces(s);
     if n == s.len() {
         return true;
     }
@@ -112,7 +61,7 @@ pub fn end_card(s: &[u8]) -> bool
     if s[2] != 68 {
         return false;
     }
-    all_spaces(&s[3..])
+    ascii::all_spaces(&s[3..])
 }
 
 // Whether a record's bytes 9 and 10 are `= `.

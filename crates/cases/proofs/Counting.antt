@@ -1,18 +1,16 @@
 -- The cases of a file counted one by one.
 -- Assumes nothing.
-use Prim.Native.Nat.{ℕ, zero, suc, _+_, _-_, _≤_, _<_}
-use mathlib.Core.Path.{_≡_, refl, sym, ap, _∙_}
-use mathlib.Core.Bool.{Bool, true, false, true≢false}
+use Prim.Native.Nat.{ℕ, zero, suc, _+_, _-_, _≤_}
+use mathlib.Core.Path.{_≡_, refl, sym}
+use mathlib.Core.Bool.{Bool, true, false}
 use mathlib.Core.List.{List}
 use native.Mathlib.Omega.{arith}
 use lib.Dec.{leb}
 use lib.ListN.{length, drop, length-drop}
 use lib.Seq.{drop-drop}
 use borrow.Author.Tests.{leb-true, lt-leb}
-use Rattle.card.proofs.Cases.{either}
-use Rattle.cell.specs.Item.{word}
+use Rattle.ascii.proofs.Cases.{either}
 use Rattle.cases.specs.declared.count.Tally.{Tally}
-use Rattle.cases.specs.declared.count.Case.{Case}
 use Rattle.cases.specs.declared.count.Case.the-variants.{Whole, Cut}
 use Rattle.cases.specs.Cases.{stepsAt, textAt, caseEnd, caseOf, answer, counted, ended, tallied}
 

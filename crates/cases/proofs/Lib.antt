@@ -1,3 +1,3 @@
+mod Beside
 mod Counting
-mod Room
 mod Texts

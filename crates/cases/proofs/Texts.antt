@@ -1,17 +1,17 @@
 -- The parts of the line that is printed: which they are, and how long.
 -- Assumes nothing.
 use Prim.Native.Nat.{ℕ, _+_, _≤_}
-use mathlib.Core.Path.{_≡_, refl}
+use mathlib.Core.Path.{_≡_}
 use mathlib.Core.Bool.{true, false}
 use mathlib.Core.List.{List, [], _++_}
 use native.Mathlib.Omega.{arith}
 use lib.Dec.{eqb}
 use lib.ListN.{length, length-append}
 use borrow.Author.Tests.{eq-eqb, ne-eqb}
-use Rattle.card.specs.Text.{bytes}
-use Rattle.card.proofs.Cases.{by-test}
-use Rattle.listing.specs.Text.{decimalText}
-use Rattle.listing.proofs.Lengths.{decimal-length}
+use Rattle.ascii.specs.Text.{bytes}
+use Rattle.ascii.proofs.Cases.{by-test}
+use Rattle.ascii.specs.Number.{decimalText}
+use Rattle.ascii.proofs.Lengths.{decimal-length}
 use Rattle.cases.specs.declared.count.Tally.{Tally}
 use Rattle.cases.specs.Report.{countsText, differText, cutText, reportText}
 

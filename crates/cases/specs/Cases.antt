@@ -5,9 +5,9 @@ use mathlib.Core.Bool.{Bool, true, false, cond}
 use mathlib.Core.List.{List}
 use lib.ListN.{length, take, drop}
 use lib.Dec.{eqb, ltb, leb}
-use Rattle.card.specs.Text.{same}
+use Rattle.ascii.specs.Text.{same}
 use Rattle.cell.specs.Item.{word}
-use Rattle.compare.specs.Text.{replayText}
+use Rattle.cases.specs.Text.{replayText}
 use Rattle.cases.specs.declared.count.Tally.{Tally}
 use Rattle.cases.specs.declared.count.Case.{Case}
 use Rattle.cases.specs.declared.count.Case.the-variants.{Whole, Cut}

@@ -4,8 +4,8 @@ use Prim.Native.Nat.{ℕ, _+_}
 use mathlib.Core.Bool.{cond}
 use mathlib.Core.List.{List, [], _∷_, _++_}
 use lib.Dec.{eqb}
-use Rattle.card.specs.Text.{bytes}
-use Rattle.listing.specs.Text.{decimalText}
+use Rattle.ascii.specs.Text.{bytes}
+use Rattle.ascii.specs.Number.{decimalText}
 use Rattle.cases.specs.declared.count.Tally.{Tally}
 
 -- `N cases, M`

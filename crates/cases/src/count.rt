@@ -5,6 +5,7 @@ ghost use Prim.Native.Nat.{_+_, _*_, _≤_, _<_, _^_};
 ghost use lib.ListN.{length};
 ghost use Rattle.cell.specs.Item.{word};
 ghost use Rattle.cases.specs.Cases.{caseOf, answer, counted, ended, tallyOf};
+use super::compare;
 
 // How many cases there are, how many of them differ, the number of the first that does (from 1; 0 where none does), and whether the file ends within a case.
 pub struct Tally {

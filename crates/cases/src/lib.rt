@@ -1,12 +1,13 @@
 // A list of cases, each a table, a file of steps and the text that is expected of them, and the line that says how many differ.
+mod compare;
 mod count;
 mod report;
 
 ghost use mathlib.Core.Path.{_≡_};
-ghost use Rattle.listing.specs.Buffer.{written, writtenTo};
+ghost use Rattle.ascii.specs.Buffer.{written, writtenTo};
 ghost use Rattle.cases.specs.Cases.{tallyOf};
 ghost use Rattle.cases.specs.Report.{reportText};
-use listing::Written;
+use ascii::Written;
 
 // Runs the cases of a file and writes the line at the front of the buffer. The rest of the buffer stays as it was, and where there is no
 // room for the line, all of it does.
@@ -17,5 +18,5 @@ pub fn report_cases(file: &[u8], out: &mut [u8]) -> Written
     let tally = count::run_cases(file);
     let mut text = [0u8; 130];
     let n = report::put_report(&mut text, tally);
-    listing::put_text(out, 0, &text[..n])
+    ascii::buffer::put_text(out, 0, &text[..n])
 }

@@ -2,22 +2,17 @@
 ghost use mathlib.Core.Path.{_≡_};
 ghost use Prim.Native.Nat.{_+_, _≤_, _<_, _^_};
 ghost use lib.ListN.{length};
-ghost use Rattle.listing.specs.Buffer.{putIn};
-ghost use Rattle.listing.specs.Text.{decimalText};
+ghost use Rattle.ascii.specs.Buffer.{putIn};
+ghost use Rattle.ascii.specs.Number.{decimalText};
 ghost use Rattle.cases.specs.Report.{countsText, differText, cutText, reportText};
 use crate::count::Tally;
-use listing::Written;
 
 fn put(out: &mut [u8], at: usize, text: &[u8]) -> usize
     requires { ⌜ at + length (now text) ≤ length (now out) ⌝ }
     ensures place { λ r. ⌜ r ≡ at + length (now (text .entry)) ⌝ }
     ensures buffer { λ _. ⌜ now (out .exit) ≡ putIn (now (out .entry)) at (now (text .entry)) ⌝ }
 {
-    let written = listing::put_text(out, at, text);
-    match written {
-        Written::To(end) => end,
-        Written::NoRoom => at,
-    }
+    ascii::buffer::put(out, at, text)
 }
 
 fn put_number(out: &mut [u8], at: usize, number: u64) -> usize
@@ -25,11 +20,7 @@ fn put_number(out: &mut [u8], at: usize, number: u64) -> usize
     ensures place { λ r. ⌜ r ≡ at + length (decimalText number) ⌝ }
     ensures buffer { λ _. ⌜ now (out .exit) ≡ putIn (now (out .entry)) at (decimalText number) ⌝ }
 {
-    let written = listing::put_decimal(out, at, number);
-    match written {
-        Written::To(end) => end,
-        Written::NoRoom => at,
-    }
+    ascii::digits::put_decimal(out, at, number)
 }
 
 fn put_counts(out: &mut [u8], at: usize, tally: Tally) -> usize

@@ -7,7 +7,7 @@ use native.Mathlib.Nat.{mul-le-mul-left, le-trans}
 use native.Mathlib.Omega.{arith}
 use lib.Dec.{eqb, leb}
 use borrow.Author.Tests.{leb-true}
-use Rattle.card.proofs.Cases.{by-test}
+use Rattle.ascii.proofs.Cases.{by-test}
 use Rattle.tform.specs.declared.VariableArrayTy.{VariableArrayTy}
 use Rattle.tform.specs.declared.TFormType.{TFormType}
 use Rattle.tform.specs.declared.TFormType.the-variants as F

@@ -5,7 +5,7 @@ use mathlib.Core.Path.{_≡_, refl, subst}
 use mathlib.Core.Bool.{Bool}
 use mathlib.Core.List.{List}
 use lib.Dec.{eqb, leb}
-use Rattle.card.proofs.Cases.{by-test}
+use Rattle.ascii.proofs.Cases.{by-test}
 use Rattle.tform.specs.declared.VariableArrayTy.{VariableArrayTy}
 use Rattle.tform.specs.declared.VariableArrayTy.the-variants as T
 use Rattle.tform.specs.declared.TFormType.{TFormType}
@@ -15,22 +15,29 @@ use Rattle.layout.specs.declared.Column.{Column}
 use Rattle.cell.specs.declared.DataValue.{DataValue}
 use Rattle.cell.specs.declared.Field.{Field}
 use Rattle.cell.specs.declared.Field.the-variants.{Items, Descriptor, OutsideHeap}
-use Rattle.cell.specs.Item.{width, item, BitsKept}
+use Rattle.cell.specs.Item.{width, rawItem, valueIn, item, BitsKept}
 use Rattle.cell.specs.Field.{array, field32, field64, fieldBy, field}
+
+raw-kept : (ty : VariableArrayTy) (a : List ℕ) (p : ℕ) → BitsKept (rawItem ty a p)
+raw-kept T.L a p = tt
+raw-kept T.X a p = tt
+raw-kept T.B a p = tt
+raw-kept T.I a p = tt
+raw-kept T.J a p = tt
+raw-kept T.K a p = tt
+raw-kept T.A a p = tt
+raw-kept T.E a p = refl
+raw-kept T.D a p = refl
+raw-kept T.C a p = (refl, refl)
+raw-kept T.M a p = (refl, refl)
+
+-- what a column makes of a value keeps it so
+value-kept : (column : Column) (v : DataValue) → BitsKept v → BitsKept (valueIn column v)
+value-kept column v h = h
 
 pub item-kept : (column : Column) (ty : VariableArrayTy) (a : List ℕ) (p : ℕ) → BitsKept (item column ty a p)
 unfolding item
-item-kept column T.L a p = tt
-item-kept column T.X a p = tt
-item-kept column T.B a p = tt
-item-kept column T.I a p = tt
-item-kept column T.J a p = tt
-item-kept column T.K a p = tt
-item-kept column T.A a p = tt
-item-kept column T.E a p = refl
-item-kept column T.D a p = refl
-item-kept column T.C a p = (refl, refl)
-item-kept column T.M a p = (refl, refl)
+item-kept column ty a p = value-kept column (rawItem ty a p) (raw-kept ty a p)
 
 -- what a field says of its descriptor's value
 abbrev Kept : Field → Type 0

@@ -1,12 +1,12 @@
 -- Two data areas with the same bytes at a place have the same number, the same item and the same field there.
 -- Assumes nothing.
 use Prim.Native.Nat.{ℕ, zero, suc, _+_, _*_, _≤_, _<_}
-use mathlib.Core.Path.{_≡_, refl, ap₂}
+use mathlib.Core.Path.{_≡_, refl, ap, ap₂}
 use mathlib.Core.Bool.{Bool}
 use mathlib.Core.List.{List}
 use native.Mathlib.Omega.{arith}
 use lib.ListN.{getD}
-use Rattle.card.specs.Text.{bytes}
+use Rattle.ascii.specs.Text.{bytes}
 use Rattle.tform.specs.declared.VariableArrayTy.{VariableArrayTy}
 use Rattle.tform.specs.declared.VariableArrayTy.the-variants as T
 use Rattle.tform.specs.declared.TFormType.{TFormType}
@@ -14,7 +14,7 @@ use Rattle.tform.specs.declared.TFormType.the-variants as F
 use Rattle.tform.specs.Width.{among, letterWidth, fieldBytes}
 use Rattle.layout.specs.declared.Column.{Column}
 use Rattle.layout.specs.Layout.{columnBytes}
-use Rattle.cell.specs.Item.{word, width, item}
+use Rattle.cell.specs.Item.{word, width, rawItem, valueIn, item}
 use Rattle.cell.specs.Field.{field32, field64, fieldBy, field}
 
 module _ (a b : List ℕ) where
@@ -28,21 +28,25 @@ module _ (a b : List ℕ) where
   word-same p (suc k) h =
       ap₂ (λ (x y : ℕ). x * 256 + y) (word-same p k (λ i l u. h i l (omega arith))) (h (p + k) (omega arith) (omega arith))
 
-  pub item-same : (column : Column) (ty : VariableArrayTy) (p : ℕ) → SameBytes p (width ty) → item column ty a p ≡ item column ty b p
-  unfolding item letterWidth among bytes
-  item-same column T.L p h = rw (word-same p 1 h)
-  item-same column T.X p h = rw (word-same p 1 h)
-  item-same column T.B p h = rw (word-same p 1 h)
-  item-same column T.I p h = rw (word-same p 2 h)
-  item-same column T.J p h = rw (word-same p 4 h)
-  item-same column T.K p h = rw (word-same p 8 h)
-  item-same column T.A p h = rw (word-same p 1 h)
-  item-same column T.E p h = rw (word-same p 4 h)
-  item-same column T.D p h = rw (word-same p 8 h)
-  item-same column T.C p h =
+  raw-same : (ty : VariableArrayTy) (p : ℕ) → SameBytes p (width ty) → rawItem ty a p ≡ rawItem ty b p
+  unfolding letterWidth among bytes
+  raw-same T.L p h = rw (word-same p 1 h)
+  raw-same T.X p h = rw (word-same p 1 h)
+  raw-same T.B p h = rw (word-same p 1 h)
+  raw-same T.I p h = rw (word-same p 2 h)
+  raw-same T.J p h = rw (word-same p 4 h)
+  raw-same T.K p h = rw (word-same p 8 h)
+  raw-same T.A p h = rw (word-same p 1 h)
+  raw-same T.E p h = rw (word-same p 4 h)
+  raw-same T.D p h = rw (word-same p 8 h)
+  raw-same T.C p h =
       rw (word-same p 4 (λ i l u. h i l (omega arith)), word-same (p + 4) 4 (λ i l u. h i (omega arith) (omega arith)))
-  item-same column T.M p h =
+  raw-same T.M p h =
       rw (word-same p 8 (λ i l u. h i l (omega arith)), word-same (p + 8) 8 (λ i l u. h i (omega arith) (omega arith)))
+
+  pub item-same : (column : Column) (ty : VariableArrayTy) (p : ℕ) → SameBytes p (width ty) → item column ty a p ≡ item column ty b p
+  unfolding item
+  item-same column ty p h = ap (valueIn column) (raw-same ty p h)
 
   by-form : (f : TFormType) (p n : ℕ) (heap : Bool) (theap end : ℕ) → SameBytes p (fieldBytes f n)
       → fieldBy a p f n heap theap end ≡ fieldBy b p f n heap theap end

@@ -2,7 +2,7 @@
 -- Assumes nothing.
 use Prim.Native.Nat.{_≤_}
 use native.Mathlib.Omega.{arith}
-use Rattle.card.specs.Text.{bytes}
+use Rattle.ascii.specs.Text.{bytes}
 use Rattle.tform.specs.declared.VariableArrayTy.{VariableArrayTy}
 use Rattle.tform.specs.declared.VariableArrayTy.the-variants as T
 use Rattle.tform.specs.Width.{among, letterWidth}

@@ -14,8 +14,9 @@ use Rattle.cell.specs.declared.Field.{Field}
 use Rattle.cell.specs.declared.Field.the-variants.{Items, Descriptor, OutsideHeap}
 use Rattle.cell.specs.Item.{word, width}
 
--- the array of a descriptor with the count n and the byte offset o, in a heap from byte theap up to, and without, byte `end`. Count 0 gives no
--- item, with any offset; its place 0 means nothing. An array that ends past the heap is refused, and any other, count 0 included, is sound.
+-- the array of a descriptor with the count n and the byte offset o, in a heap from byte theap up to, and without, byte `end`. Count 0
+-- gives no item, with any offset; its place 0 means nothing. An array that ends past the heap is refused. Any other, count 0 included,
+-- is what the request's term "sound" means: it gives `Items`.
 unfoldable pub array : ℕ → ℕ → VariableArrayTy → ℕ → ℕ → Field
 array theap end ty n o =
     cond (eqb n 0)

@@ -18,6 +18,7 @@ use Rattle.cell.specs.declared.Logical.{Logical}
 use Rattle.cell.specs.declared.Logical.the-variants.{Yes, No, Unset, Odd}
 use Rattle.cell.specs.declared.DataValue.{DataValue}
 use Rattle.cell.specs.declared.DataValue.the-variants as D
+use Rattle.cell.specs.declared.Cell.{Cell}
 
 -- the unsigned number that the k bytes from place p on hold, the highest byte first
 unfoldable pub word : List ℕ → ℕ → ℕ → ℕ
@@ -32,20 +33,29 @@ width ty = letterWidth (letter ty)
 unfoldable pub logical : ℕ → Logical
 logical b = cond (eqb b 84) Yes (cond (eqb b 70) No (cond (eqb b 0) Unset (Odd b)))
 
--- the value of the item of a column at place p. `toZ` reads bits as two's complement, `ofBits` as an IEEE 754 number.
--- The column does not matter yet: scaling and missing values will look at it.
+-- the item at place p as its bytes say it. `toZ` reads bits as two's complement, `ofBits` as an IEEE 754 number
+abbrev pub rawItem : VariableArrayTy → List ℕ → ℕ → DataValue
+rawItem T.L a p = D.Logical (logical (word a p 1))
+rawItem T.X a p = D.Bit (word a p 1)
+rawItem T.B a p = D.UnsignedByte (word a p 1)
+rawItem T.I a p = D.Short (toZ w16 (word a p 2))
+rawItem T.J a p = D.Integer (toZ w32 (word a p 4))
+rawItem T.K a p = D.Long (toZ w64 (word a p 8))
+rawItem T.A a p = D.Character (word a p 1)
+rawItem T.E a p = D.Float (ofBits binary32 (word a p 4)) (word a p 4)
+rawItem T.D a p = D.Double (ofBits binary64 (word a p 8)) (word a p 8)
+rawItem T.C a p =
+    D.ComplexFloat (ofBits binary32 (word a p 4)) (word a p 4) (ofBits binary32 (word a (p + 4) 4)) (word a (p + 4) 4)
+rawItem T.M a p =
+    D.ComplexDouble (ofBits binary64 (word a p 8)) (word a p 8) (ofBits binary64 (word a (p + 8) 8)) (word a (p + 8) 8)
+
+-- what a column makes of a raw value: the raw value itself. Scaling and missing values will look at the column here
+abbrev pub valueIn : Column → DataValue → DataValue
+valueIn column raw = raw
+
+-- the value of the item of a column at place p
 unfoldable pub item : Column → VariableArrayTy → List ℕ → ℕ → DataValue
-item column T.L a p = D.Logical (logical (word a p 1))
-item column T.X a p = D.Bit (word a p 1)
-item column T.B a p = D.UnsignedByte (word a p 1)
-item column T.I a p = D.Short (toZ w16 (word a p 2))
-item column T.J a p = D.Integer (toZ w32 (word a p 4))
-item column T.K a p = D.Long (toZ w64 (word a p 8))
-item column T.A a p = D.Character (word a p 1)
-item column T.E a p = D.Float (ofBits binary32 (word a p 4)) (word a p 4)
-item column T.D a p = D.Double (ofBits binary64 (word a p 8)) (word a p 8)
-item column T.C a p = D.ComplexFloat (ofBits binary32 (word a p 4)) (word a p 4) (ofBits binary32 (word a (p + 4) 4)) (word a (p + 4) 4)
-item column T.M a p = D.ComplexDouble (ofBits binary64 (word a p 8)) (word a p 8) (ofBits binary64 (word a (p + 8) 8)) (word a (p + 8) 8)
+item column ty a p = valueIn column (rawItem ty a p)
 
 -- each float of a value is the float of the bits beside it
 abbrev pub OfBits : Format → Float → ℕ → Type 0
@@ -65,3 +75,7 @@ BitsKept (D.ComplexFloat v b w d) = OfBits binary32 v b × OfBits binary32 w d
 BitsKept (D.ComplexDouble v b w d) = OfBits binary64 v b × OfBits binary64 w d
 BitsKept (D.VariableLengthArray32 n o) = Unit {0}
 BitsKept (D.VariableLengthArray64 n o) = Unit {0}
+
+-- the cell of zeros that a list is filled with before it is lent
+abbrev pub blankCell : Cell
+blankCell = record { row = 0; column = 0; idx = 0; value = D.Bit 0 }

@@ -3,7 +3,7 @@ pub mod floats;
 pub mod words;
 
 ghost use mathlib.Core.Path.{_≡_};
-ghost use Rattle.cell.specs.Item.{logical, item};
+ghost use Rattle.cell.specs.Item.{logical, rawItem, valueIn, item, blankCell};
 ghost use Rattle.cell.specs.Field.{array, field32, field64, field, sizeOf};
 use layout::Column;
 use tform::TFormType;
@@ -76,6 +76,18 @@ pub enum Field {
     OutsideHeap,
 }
 
+// A cell of zeros, to fill a list with before it is lent.
+pub fn blank_cell() -> Cell
+    ensures { λ r. ⌜ r ≡ blankCell ⌝ }
+{
+    Cell {
+        row: 0,
+        column: 0,
+        idx: 0,
+        value: DataValue::Bit(0),
+    }
+}
+
 pub fn read_logical(byte: u8) -> Logical
     ensures { λ r. ⌜ r ≡ logical byte ⌝ }
 {
@@ -87,57 +99,74 @@ pub fn read_logical(byte: u8) -> Logical
     }
 }
 
-// The value of the item at a place. A byte past the area counts as 0. The column does not matter yet: scaling and missing values will
-// look at it.
-pub fn read_item(area: &[u8], at: u64, ty: VariableArrayTy, column: Column) -> DataValue
-    ensures { λ r. ⌜ r ≡ item column ty (now (area .entry)) at ⌝ }
+// The item at a place, as its bytes say it. All types take theirs of the eight bytes there: one read for all leaves the
+// function small enough to be compiled into the loop of a row read. A call would pass each value through memory.
+fn raw_item(area: &[u8], at: u64, ty: VariableArrayTy) -> DataValue
+    ensures { λ r. ⌜ r ≡ rawItem ty (now (area .entry)) at ⌝ }
 {
+    let eight = words::u64_at(area, at, 0);
+    // The first four, two and one of them.
+    let four = (eight / 4294967296) as u32;
+    let two = (eight / 281474976710656) as u16;
+    let byte = (eight / 72057594037927936) as u8;
     match ty {
         VariableArrayTy::L => {
-            let value = read_logical(words::byte(area, at, 0));
+            let value = read_logical(byte);
             DataValue::Logical(value)
         }
-        VariableArrayTy::X => DataValue::Bit(words::byte(area, at, 0)),
-        VariableArrayTy::B => DataValue::UnsignedByte(words::byte(area, at, 0)),
-        VariableArrayTy::I => DataValue::Short(words::signed16(words::u16_at(area, at, 0))),
-        VariableArrayTy::J => DataValue::Integer(words::signed32(words::u32_at(area, at, 0))),
-        VariableArrayTy::K => DataValue::Long(words::signed64(words::u64_at(area, at, 0))),
-        VariableArrayTy::A => DataValue::Character(words::byte(area, at, 0)),
+        VariableArrayTy::X => DataValue::Bit(byte),
+        VariableArrayTy::B => DataValue::UnsignedByte(byte),
+        VariableArrayTy::I => DataValue::Short(words::signed16(two)),
+        VariableArrayTy::J => DataValue::Integer(words::signed32(four)),
+        VariableArrayTy::K => DataValue::Long(words::signed64(eight)),
+        VariableArrayTy::A => DataValue::Character(byte),
         VariableArrayTy::E => {
-            let bits = words::u32_at(area, at, 0);
-            let value = floats::single(bits);
-            DataValue::Float { value, bits }
+            let value = floats::single(four);
+            DataValue::Float { value, bits: four }
         }
         VariableArrayTy::D => {
-            let bits = words::u64_at(area, at, 0);
-            let value = floats::double(bits);
-            DataValue::Double { value, bits }
+            let value = floats::double(eight);
+            DataValue::Double { value, bits: eight }
         }
         VariableArrayTy::C => {
-            let real_bits = words::u32_at(area, at, 0);
-            let imag_bits = words::u32_at(area, at, 4);
-            let real = floats::single(real_bits);
+            let imag_bits = (eight % 4294967296) as u32;
+            let real = floats::single(four);
             let imag = floats::single(imag_bits);
             DataValue::ComplexFloat {
                 real,
-                real_bits,
+                real_bits: four,
                 imag,
                 imag_bits,
             }
         }
         VariableArrayTy::M => {
-            let real_bits = words::u64_at(area, at, 0);
             let imag_bits = words::u64_at(area, at, 8);
-            let real = floats::double(real_bits);
+            let real = floats::double(eight);
             let imag = floats::double(imag_bits);
             DataValue::ComplexDouble {
                 real,
-                real_bits,
+                real_bits: eight,
                 imag,
                 imag_bits,
             }
         }
     }
+}
+
+// What a column makes of a raw value: the raw value itself. Scaling and missing values, which depend on the column's
+// keywords, will be here and nowhere else.
+fn value_in(column: Column, raw: DataValue) -> DataValue
+    ensures { λ r. ⌜ r ≡ valueIn column raw ⌝ }
+{
+    raw
+}
+
+// The value of the item at a place. A byte past the area counts as 0.
+pub fn read_item(area: &[u8], at: u64, ty: VariableArrayTy, column: Column) -> DataValue
+    ensures { λ r. ⌜ r ≡ item column ty (now (area .entry)) at ⌝ }
+{
+    let raw = raw_item(area, at, ty);
+    value_in(column, raw)
 }
 
 // The array that a descriptor names, in a heap from byte theap up to, and without, byte `end` of the data area.

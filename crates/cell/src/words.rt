@@ -5,6 +5,7 @@ ghost use lib.ListN.{getD};
 ghost use mir.Syntax.{w16, w32, w64};
 ghost use mir.Val.{toZ};
 ghost use Rattle.cell.specs.Item.{word};
+ghost use Rattle.cell.specs.Swap.{little, swapped};
 
 // The byte at place at + i, a sum that could wrap.
 pub fn byte(area: &[u8], at: u64, i: u64) -> u8
@@ -20,7 +21,19 @@ pub fn byte(area: &[u8], at: u64, i: u64) -> u8
     area[(at + i) as usize]
 }
 
-// A byte inside the area, and numbers whose bytes are.
+// The k bytes from place at + from on, of which some may be past the area. It calls itself as `word` does, so it is
+// never compiled into its caller, and the read of bytes inside the area stays small.
+fn by_bytes(area: &[u8], at: u64, from: u64, k: u64) -> u64
+    requires { ⌜ (from ≤ 255) × (k ≤ 8) ⌝ }
+    ensures { λ r. ⌜ r ≡ word (now (area .entry)) (at + from) k ⌝ }
+{
+    if k == 0 {
+        return 0;
+    }
+    by_bytes(area, at, from, k - 1) * 256 + byte(area, at, from + (k - 1)) as u64
+}
+
+// A byte inside the area, and four, the lowest first.
 fn byte_inside(area: &[u8], at: usize) -> u8
     requires { do ⌜ at < (← ⟦area.len()⟧) ⌝ }
     ensures { λ r. ⌜ r ≡ getD (now (area .entry)) at 0 ⌝ }
@@ -28,75 +41,34 @@ fn byte_inside(area: &[u8], at: usize) -> u8
     area[at]
 }
 
-fn u16_inside(area: &[u8], at: usize) -> u16
-    requires { do ⌜ at + 2 ≤ (← ⟦area.len()⟧) ⌝ }
-    ensures { λ r. ⌜ r ≡ word (now (area .entry)) at 2 ⌝ }
-{
-    byte_inside(area, at) as u16 * 256 + byte_inside(area, at + 1) as u16
-}
-
-fn u32_inside(area: &[u8], at: usize) -> u32
+fn little32(area: &[u8], at: usize) -> u32
     requires { do ⌜ at + 4 ≤ (← ⟦area.len()⟧) ⌝ }
-    ensures { λ r. ⌜ r ≡ word (now (area .entry)) at 4 ⌝ }
+    ensures { λ r. ⌜ r ≡ little (now (area .entry)) at 4 ⌝ }
 {
-    byte_inside(area, at) as u32 * 16777216
-        + byte_inside(area, at + 1) as u32 * 65536
-        + byte_inside(area, at + 2) as u32 * 256
-        + byte_inside(area, at + 3) as u32
+    byte_inside(area, at) as u32
+        + byte_inside(area, at + 1) as u32 * 256
+        + byte_inside(area, at + 2) as u32 * 65536
+        + byte_inside(area, at + 3) as u32 * 16777216
 }
 
+// The four bytes of a number the other way round.
+fn swap32(x: u32) -> u32
+    ensures { λ r. ⌜ r ≡ swapped 4 x ⌝ }
+{
+    x % 256 * 16777216 + x / 256 % 256 * 65536 + x / 256 / 256 % 256 * 256 + x / 256 / 256 / 256
+}
+
+// Eight bytes inside the area: the little-endian number, and its bytes the other way round. That is compiled to one
+// load and one swap; bytes that are put together the highest first are loaded one by one.
 fn u64_inside(area: &[u8], at: usize) -> u64
     requires { do ⌜ at + 8 ≤ (← ⟦area.len()⟧) ⌝ }
     ensures { λ r. ⌜ r ≡ word (now (area .entry)) at 8 ⌝ }
 {
-    u32_inside(area, at) as u64 * 4294967296 + u32_inside(area, at + 4) as u64
+    let x = little32(area, at) as u64 + little32(area, at + 4) as u64 * 4294967296;
+    swap32((x % 4294967296) as u32) as u64 * 4294967296 + swap32((x / 4294967296) as u32) as u64
 }
 
-// Four and eight bytes of which some may be past the area.
-fn u32_by_bytes(area: &[u8], at: u64, from: u64) -> u32
-    requires { ⌜ from ≤ 259 ⌝ }
-    ensures { λ r. ⌜ r ≡ word (now (area .entry)) (at + from) 4 ⌝ }
-{
-    byte(area, at, from) as u32 * 16777216
-        + byte(area, at, from + 1) as u32 * 65536
-        + byte(area, at, from + 2) as u32 * 256
-        + byte(area, at, from + 3) as u32
-}
-
-fn u64_by_bytes(area: &[u8], at: u64, from: u64) -> u64
-    requires { ⌜ from ≤ 255 ⌝ }
-    ensures { λ r. ⌜ r ≡ word (now (area .entry)) (at + from) 8 ⌝ }
-{
-    u32_by_bytes(area, at, from) as u64 * 4294967296 + u32_by_bytes(area, at, from + 4) as u64
-}
-
-// The numbers at place at + from: one test for all their bytes. Past the area the upper bytes of the eight there are taken.
-pub fn u16_at(area: &[u8], at: u64, from: u8) -> u16
-    ensures { λ r. ⌜ r ≡ word (now (area .entry)) (at + from) 2 ⌝ }
-{
-    let len = area.len() as u64;
-    let size = from as u64 + 2;
-    if size <= len {
-        if at <= len - size {
-            return u16_inside(area, (at + from as u64) as usize);
-        }
-    }
-    (u64_by_bytes(area, at, from as u64) / 281474976710656) as u16
-}
-
-pub fn u32_at(area: &[u8], at: u64, from: u8) -> u32
-    ensures { λ r. ⌜ r ≡ word (now (area .entry)) (at + from) 4 ⌝ }
-{
-    let len = area.len() as u64;
-    let size = from as u64 + 4;
-    if size <= len {
-        if at <= len - size {
-            return u32_inside(area, (at + from as u64) as usize);
-        }
-    }
-    (u64_by_bytes(area, at, from as u64) / 4294967296) as u32
-}
-
+// The numbers of eight, four and two bytes at place at + from: one test for eight, of which the upper ones are taken.
 pub fn u64_at(area: &[u8], at: u64, from: u8) -> u64
     ensures { λ r. ⌜ r ≡ word (now (area .entry)) (at + from) 8 ⌝ }
 {
@@ -107,7 +79,19 @@ pub fn u64_at(area: &[u8], at: u64, from: u8) -> u64
             return u64_inside(area, (at + from as u64) as usize);
         }
     }
-    u64_by_bytes(area, at, from as u64)
+    by_bytes(area, at, from as u64, 8)
+}
+
+pub fn u32_at(area: &[u8], at: u64, from: u8) -> u32
+    ensures { λ r. ⌜ r ≡ word (now (area .entry)) (at + from) 4 ⌝ }
+{
+    (u64_at(area, at, from) / 4294967296) as u32
+}
+
+pub fn u16_at(area: &[u8], at: u64, from: u8) -> u16
+    ensures { λ r. ⌜ r ≡ word (now (area .entry)) (at + from) 2 ⌝ }
+{
+    (u64_at(area, at, from) / 281474976710656) as u16
 }
 
 // Two's complement.

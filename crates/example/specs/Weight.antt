@@ -3,15 +3,13 @@
 use Prim.Native.Nat.{ℕ}
 use mathlib.Core.Bool.{true}
 use mathlib.Core.List.{List, [], _∷_}
-use Rattle.card.specs.Text.{bytes}
-use Rattle.keyword.specs.declared.Found.{Found}
-use Rattle.keyword.specs.declared.Found.the-variants.{At, Nothing}
+use Rattle.ascii.specs.Text.{bytes}
+use Rattle.ascii.specs.declared.Found.{Found}
+use Rattle.ascii.specs.declared.Found.the-variants.{At, Nothing}
 use Rattle.layout.specs.declared.BinTable.{BinTable}
 use Rattle.layout.specs.Names.{findName}
 use Rattle.bintable.specs.Entry as B
-use Rattle.cell.specs.declared.DataValue.the-variants as D
-use Rattle.cell.specs.declared.Cell.{Cell}
-use Rattle.walk.specs.Plain.{cellOf}
+use Rattle.cell.specs.Item.{blankCell}
 use Rattle.walk.specs.Walk.{readCell, Reply, refused}
 use Rattle.walk.specs.Step.{allColumns, listed, openWith, Result, cursorStep}
 use Rattle.row.specs.Owned.{ownRead}
@@ -28,9 +26,6 @@ weightBy h a (B.refused n p) = refused n p
 
 abbrev pub firstWeight : List ℕ → List ℕ → Reply
 firstWeight h a = weightBy h a (B.entry h a)
-
-abbrev pub blankCell : Cell
-blankCell = cellOf 0 0 0 (D.Bit 0)
 
 -- the first row, read into a list of 512 blank cells. Beside a refused table stands the empty layout, and then the row read is refused
 abbrev pub firstRow : List ℕ → List ℕ → Result

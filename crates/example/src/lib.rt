@@ -1,13 +1,12 @@
 // The calls of the library as README shows them.
 ghost use mathlib.Core.Path.{_≡_};
 ghost use lib.ListN.{getD};
+ghost use Rattle.cell.specs.Item.{blankCell};
 ghost use Rattle.walk.specs.Step.{replyOf, resultOf};
-ghost use Rattle.example.specs.Weight.{firstWeight, blankCell, firstRow};
-use cell::Cell;
-use cell::DataValue;
-use keyword::Found;
-use layout::Check;
-use layout::Refusal;
+ghost use Rattle.example.specs.Weight.{firstWeight, firstRow};
+use ascii::Found;
+use refusal::Check;
+use refusal::Refusal;
 use row::owners::RowCell;
 use walk::Answer;
 
@@ -41,11 +40,5 @@ pub fn of_first_row(header: &[u8], area: &[u8], k: usize) -> RowCell
     let layout = parsed.layout;
     let opened = table::open(layout, area, true);
     let cursor = opened.cursor;
-    let blank = Cell {
-        row: 0,
-        column: 0,
-        idx: 0,
-        value: DataValue::Bit(0),
-    };
-    row::owners::row_cell(layout, area, cursor, blank, 512, k)
+    row::owners::row_cell(layout, area, cursor, cell::blank_cell(), 512, k)
 }

@@ -1,18 +1,22 @@
 -- The checksum of cells and of a layout: words of 32 bits, one after the other.
 -- Assumes nothing.
-use Prim.Native.Nat.{ℕ, _+_, _*_, _/_, _%_, _^_}
+use Prim.Native.Nat.{ℕ, zero, suc, _+_, _*_, _/_, _%_, _^_}
 use mathlib.Core.List.{List, [], _∷_, _++_}
-use lib.ListN.{take}
+use lib.ListN.{length}
 use mir.Syntax.{w16, w32, w64}
 use mir.Val.{ofZ}
-use Rattle.layout.specs.declared.Column.{Column}
+use Rattle.tform.specs.declared.TFormType.{TFormType}
+use Rattle.tform.specs.declared.TFormType.the-variants.{Items, P, Q}
+use Rattle.tform.specs.Width.{letter, formLetter}
 use Rattle.layout.specs.declared.BinTable.{BinTable}
+use Rattle.layout.specs.Names.{columnName}
 use Rattle.bintable.specs.Entry as B
 use Rattle.cell.specs.declared.Logical.{Logical}
 use Rattle.cell.specs.declared.Logical.the-variants as L
 use Rattle.cell.specs.declared.DataValue.{DataValue}
 use Rattle.cell.specs.declared.DataValue.the-variants as D
 use Rattle.cell.specs.declared.Cell.{Cell}
+use Rattle.walk.specs.Plain.{columnOf}
 
 -- a sum with one more word, or number
 abbrev pub addWord : ℕ → ℕ → ℕ
@@ -48,8 +52,12 @@ words (D.ComplexDouble r real i imag) = two real ++ two imag
 words (D.VariableLengthArray32 n at) = n ∷ at ∷ []
 words (D.VariableLengthArray64 n at) = two n ++ two at
 
+-- those of a cell: where it stands, then its value
+abbrev pub cellWords : Cell → List ℕ
+cellWords c = c .row ∷ c .column ∷ c .idx ∷ words (c .value)
+
 abbrev pub addCell : ℕ → Cell → ℕ
-addCell s c = addWords s (words (c .value))
+addCell s c = addWords s (cellWords c)
 
 -- a sum with the words of some cells
 unfoldable pub addCells : ℕ → List Cell → ℕ
@@ -59,16 +67,32 @@ addCells s (c ∷ cs) = addCells (addCell s c) cs
 abbrev pub checksum : List Cell → ℕ
 checksum cs = addCells 0 cs
 
--- a sum with the count and start of some columns
-unfoldable pub addColumns : ℕ → List Column → ℕ
-addColumns s [] = s
-addColumns s (c ∷ cs) = addColumns (addWords s (c .count ∷ c .start ∷ [])) cs
+-- the letter of a descriptor's elements; 0 for items, which have the form's letter
+abbrev pub elementLetter : TFormType → ℕ
+elementLetter (Items e) = 0
+elementLetter (P e) = letter e
+elementLetter (Q e) = letter e
+
+-- the words of column c: its letters, count and start, and how long its name is, with the name's bytes as the header has them
+unfoldable pub columnWords : List ℕ → BinTable → ℕ → List ℕ
+columnWords h l c =
+    let column = columnOf l c in let name = columnName h l c in
+    formLetter (column .form) ∷ elementLetter (column .form) ∷ column .count ∷ column .start ∷ length name ∷ name
+
+-- of n columns from column c on
+unfoldable pub columnsWords : List ℕ → BinTable → ℕ → ℕ → List ℕ
+columnsWords h l c zero = []
+columnsWords h l c (suc n) = columnWords h l c ++ columnsWords h l (suc c) n
 
 -- the sizes of a layout, then its columns
-abbrev pub layoutSum : BinTable → ℕ
-layoutSum l = addColumns (addWords 0 (l .naxis1 ∷ l .naxis2 ∷ l .pcount ∷ l .theap ∷ l .tfields ∷ [])) (take (l .tfields) (l .columns))
+unfoldable pub layoutSum : List ℕ → BinTable → ℕ
+layoutSum h l = addWords 0 (l .naxis1 ∷ l .naxis2 ∷ l .pcount ∷ l .theap ∷ l .tfields ∷ columnsWords h l 0 (l .tfields))
 
--- of the layout that the entry returns; 0 for a refusal
-abbrev pub entrySum : B.Entry → ℕ
-entrySum (B.accepted l) = layoutSum l
-entrySum (B.refused n p) = 0
+-- what is returned: the number of a refusal, 0 if there is none, above a sum
+abbrev pub withNumber : ℕ → ℕ → ℕ
+withNumber n s = n * 2 ^ 32 + s
+
+-- of the layout that the entry returns; the number of a refusal, above a sum of 0
+abbrev pub entrySum : List ℕ → B.Entry → ℕ
+entrySum h (B.accepted l) = withNumber 0 (layoutSum h l)
+entrySum h (B.refused n p) = withNumber n 0

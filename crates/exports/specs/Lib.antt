@@ -1,3 +1,3 @@
 pub mod Checksum
 pub mod Reads
-pub mod RowSums
+pub mod Loops

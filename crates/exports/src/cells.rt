@@ -1,14 +1,16 @@
-// The sum of the cells that cell reads hand out, up to the first answer that is no cell.
+// The sum of the cells that cell reads hand out, up to the first answer that is no cell. There are two loops, since one
+// that asks in each turn which call to make takes some 6 ns more for a cell.
 ghost use mathlib.Core.Path.{_≡_};
-ghost use Rattle.exports.specs.Checksum.{checksum};
-ghost use Rattle.exports.specs.Reads.{cellsFrom};
+ghost use Rattle.exports.specs.Reads.{readsSum};
+ghost use Rattle.exports.specs.Loops.{cellsFrom};
 use super::checksum;
+use super::refusals;
 use layout::BinTable;
 use walk::Answer;
 use walk::TableData;
 
-pub fn sum_cells(layout: BinTable, area: &[u8], cursor: TableData) -> u32
-    ensures { λ r. ⌜ r ≡ checksum (cellsFrom layout (now (area .entry)) cursor) ⌝ }
+pub fn sum_cells(layout: BinTable, area: &[u8], cursor: TableData) -> u64
+    ensures { λ r. ⌜ r ≡ readsSum (cellsFrom layout (now (area .entry)) cursor) ⌝ }
 {
     let mut sum: u32 = 0;
     let mut current = cursor;
@@ -16,15 +18,15 @@ pub fn sum_cells(layout: BinTable, area: &[u8], cursor: TableData) -> u32
         let stepped = table::next(layout, area, current);
         let answer = stepped.answer;
         let Answer::Cell(cell) = answer else {
-            return sum;
+            return refusals::ended(sum, answer);
         };
         sum = checksum::add_cell(sum, cell);
         current = stepped.cursor;
     }
 }
 
-pub fn sum_lent(layout: BinTable, area: &[u8], cursor: TableData) -> u32
-    ensures { λ r. ⌜ r ≡ checksum (cellsFrom layout (now (area .entry)) cursor) ⌝ }
+pub fn sum_lent(layout: BinTable, area: &[u8], cursor: TableData) -> u64
+    ensures { λ r. ⌜ r ≡ readsSum (cellsFrom layout (now (area .entry)) cursor) ⌝ }
 {
     let mut sum: u32 = 0;
     let mut current = cursor;
@@ -32,7 +34,7 @@ pub fn sum_lent(layout: BinTable, area: &[u8], cursor: TableData) -> u32
         let stepped = row::owners::next(layout, area, current);
         let answer = stepped.answer;
         let Answer::Cell(cell) = answer else {
-            return sum;
+            return refusals::ended(sum, answer);
         };
         sum = checksum::add_cell(sum, cell);
         current = stepped.cursor;

@@ -1,15 +1,13 @@
 // The checksum, word by word.
 ghost use mathlib.Core.Path.{_≡_};
-ghost use Prim.Native.Nat.{_≤_};
-ghost use mir.Syntax.{w16, w32, w64};
+ghost use mir.Syntax.{w64};
 ghost use mir.Val.{ofZ};
-ghost use Rattle.exports.specs.Checksum.{addWord, addWords, two, logicalByte, words, addCell, layoutSum};
+ghost use Rattle.exports.specs.Checksum.{addWord, addWords, two, logicalByte, words, addCell};
 use cell::Cell;
 use cell::DataValue;
 use cell::Logical;
-use layout::BinTable;
 
-fn add_word(sum: u32, word: u64) -> u32
+pub fn add_word(sum: u32, word: u64) -> u32
     ensures { λ r. ⌜ r ≡ addWord sum word ⌝ }
 {
     // Of the word only its low half matters, and no sum wraps.
@@ -23,28 +21,8 @@ fn add_two(sum: u32, n: u64) -> u32
     add_word(add_word(sum, n / 4294967296), n % 4294967296)
 }
 
-// The bits of a signed number: a negative one by its distance from -1.
-fn bits16(n: i16) -> u64
-    ensures { λ r. ⌜ r ≡ ofZ w16 n ⌝ }
-{
-    if n >= 0 {
-        n as u64
-    } else {
-        65535 - (-1 - n) as u64
-    }
-}
-
-fn bits32(n: i32) -> u64
-    ensures { λ r. ⌜ r ≡ ofZ w32 n ⌝ }
-{
-    if n >= 0 {
-        n as u64
-    } else {
-        4294967295 - (-1 - n) as u64
-    }
-}
-
-fn bits64(n: i64) -> u64
+// The 64 bits of a signed number: a negative one by its distance from -1. Of one that has fewer bits they end in those.
+fn bits(n: i64) -> u64
     ensures { λ r. ⌜ r ≡ ofZ w64 n ⌝ }
 {
     if n >= 0 {
@@ -72,9 +50,9 @@ fn add_value(sum: u32, value: DataValue) -> u32
         DataValue::Logical(logical) => add_word(sum, logical_byte(logical) as u64),
         DataValue::Bit(byte) => add_word(sum, byte as u64),
         DataValue::UnsignedByte(byte) => add_word(sum, byte as u64),
-        DataValue::Short(n) => add_word(sum, bits16(n)),
-        DataValue::Integer(n) => add_word(sum, bits32(n)),
-        DataValue::Long(n) => add_two(sum, bits64(n)),
+        DataValue::Short(n) => add_word(sum, bits(n as i64) % 65536),
+        DataValue::Integer(n) => add_word(sum, bits(n as i64) % 4294967296),
+        DataValue::Long(n) => add_two(sum, bits(n)),
         DataValue::Character(byte) => add_word(sum, byte as u64),
         DataValue::Float { value: _, bits } => add_word(sum, bits as u64),
         DataValue::Double { value: _, bits } => add_two(sum, bits),
@@ -105,24 +83,6 @@ pub fn add_cell(sum: u32, cell: Cell) -> u32
     ensures { λ r. ⌜ r ≡ addCell sum cell ⌝ }
 {
     let value = cell.value;
-    add_value(sum, value)
-}
-
-// The sizes of a layout, then the count and start of each column.
-pub fn sum_layout(layout: BinTable) -> u32
-    requires { ⌜ layout .tfields ≤ 64 ⌝ }
-    ensures { λ r. ⌜ r ≡ layoutSum layout ⌝ }
-{
-    let mut sum = add_word(0, layout.naxis1);
-    sum = add_word(sum, layout.naxis2);
-    sum = add_word(sum, layout.pcount);
-    sum = add_word(sum, layout.theap);
-    sum = add_word(sum, layout.tfields as u64);
-    let mut c: usize = 0;
-    while c < layout.tfields {
-        let column = layout.columns[c];
-        sum = add_word(add_word(sum, column.count as u64), column.start);
-        c += 1;
-    }
-    sum
+    let place = add_word(add_word(sum, cell.row), cell.column as u64);
+    add_value(add_word(place, cell.idx), value)
 }

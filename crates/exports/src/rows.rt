@@ -3,28 +3,27 @@ ghost use mathlib.Core.Path.{_≡_};
 ghost use Prim.Native.Nat.{_≤_};
 ghost use lib.ListN.{length, take};
 ghost use Rattle.walk.specs.Walk.{readRow};
-ghost use Rattle.walk.specs.Step.{cursorStep};
-ghost use Rattle.exports.specs.Checksum.{checksum, addCells};
-ghost use Rattle.exports.specs.Reads.{rowsFrom, longList, shortList};
-ghost use Rattle.exports.specs.RowSums.{storedCells, isRow, blank, rowSum, rowSumAt};
+ghost use Rattle.walk.specs.Step.{cursorStep, replyOf};
+ghost use Rattle.exports.specs.Checksum.{addCells};
+ghost use Rattle.exports.specs.Reads.{listLength, readsSum};
+ghost use Rattle.exports.specs.Loops.{rowsFrom, storedCells, isRow, rowSum, rowSumAt};
 use super::checksum;
+use super::refusals;
 use cell::Cell;
-use cell::DataValue;
 use layout::BinTable;
 use walk::Answer;
 use walk::Stepped;
 use walk::TableData;
 
-// How many cells the lists take.
-const SHORT_LIST: usize = 512;
+// How many cells the list takes.
+const LIST_LENGTH: usize = 512;
 
-const LONG_LIST: usize = 1048576;
-
-// The sum so far, the cursor, and whether the last read stored a row.
+// The sum so far, the cursor, whether the last read stored a row, and what is returned if it did not.
 struct RowSum {
     sum: u32,
     cursor: TableData,
     more: bool,
+    total: u64,
 }
 
 // How many cells an answer says that a row read stored.
@@ -54,12 +53,18 @@ fn is_row(answer: Answer) -> bool
 
 // What a row read comes to, with the sum of its cells.
 fn after_row(sum: u32, stepped: Stepped) -> RowSum
-    ensures { λ r. ⌜ r ≡ rowSum sum (stepped .cursor) (isRow (stepped .answer)) ⌝ }
+    ensures { λ r. ⌜ r ≡ rowSum sum (stepped .cursor) (replyOf (stepped .answer)) ⌝ }
 {
     let answer = stepped.answer;
     let cursor = stepped.cursor;
     let more = is_row(answer);
-    RowSum { sum, cursor, more }
+    let total = refusals::ended(sum, answer);
+    RowSum {
+        sum,
+        cursor,
+        more,
+        total,
+    }
 }
 
 fn read_cells(stepped: Stepped) -> usize
@@ -67,18 +72,6 @@ fn read_cells(stepped: Stepped) -> usize
 {
     let answer = stepped.answer;
     stored_cells(answer)
-}
-
-// What the list is filled with before it is lent.
-fn blank_cell() -> Cell
-    ensures { λ r. ⌜ r ≡ blank ⌝ }
-{
-    Cell {
-        row: 0,
-        column: 0,
-        idx: 0,
-        value: DataValue::Bit(0),
-    }
 }
 
 // The first n cells of a list.
@@ -108,30 +101,24 @@ fn add_row(list: &mut [Cell], layout: BinTable, area: &[u8], state: RowSum) -> R
 }
 
 // The rows from a cursor on, up to the first that is not read.
-fn add_rows(list: &mut [Cell], layout: BinTable, area: &[u8], cursor: TableData) -> u32
-    ensures { λ r. ⌜ r ≡ checksum (rowsFrom (length (now (list .entry))) layout (now (area .entry)) cursor) ⌝ }
+fn add_rows(list: &mut [Cell], layout: BinTable, area: &[u8], cursor: TableData) -> u64
+    ensures { λ r. ⌜ r ≡ readsSum (rowsFrom (length (now (list .entry))) layout (now (area .entry)) cursor) ⌝ }
 {
     let mut state = RowSum {
         sum: 0,
         cursor,
         more: true,
+        total: 0,
     };
     while state.more {
         state = add_row(list, layout, area, state);
     }
-    state.sum
+    state.total
 }
 
-pub fn sum_rows(layout: BinTable, area: &[u8], cursor: TableData) -> u32
-    ensures { λ r. ⌜ r ≡ checksum (rowsFrom shortList layout (now (area .entry)) cursor) ⌝ }
+pub fn sum_rows(layout: BinTable, area: &[u8], cursor: TableData) -> u64
+    ensures { λ r. ⌜ r ≡ readsSum (rowsFrom listLength layout (now (area .entry)) cursor) ⌝ }
 {
-    let mut list = [blank_cell(); SHORT_LIST];
-    add_rows(&mut list, layout, area, cursor)
-}
-
-pub fn sum_long_rows(layout: BinTable, area: &[u8], cursor: TableData) -> u32
-    ensures { λ r. ⌜ r ≡ checksum (rowsFrom longList layout (now (area .entry)) cursor) ⌝ }
-{
-    let mut list = [blank_cell(); LONG_LIST];
+    let mut list = [cell::blank_cell(); LIST_LENGTH];
     add_rows(&mut list, layout, area, cursor)
 }

@@ -7,8 +7,9 @@ use Prim.Native.Nat.{ℕ, _%_, _≤_, _<_}
 use lib.ListN.{length}
 use lib.Dec.{eqb, ltb}
 use borrow.Author.Tests.{eq-eqb, ne-eqb, lt-ltb, le-ltb, ltb-true, ltb-false}
-use Rattle.card.proofs.Cases.{either}
-use Rattle.header.specs.Checks.{refused, badLength, check1, checked, namesRead}
+use Rattle.ascii.proofs.Cases.{either}
+use Rattle.refusal.specs.Refusal.{refused}
+use Rattle.header.specs.Checks.{badLength, check1, checked, namesRead}
 
 module _ (h : List ℕ) where
   pub length-none : length h ≡ 0 → badLength h ≡ true

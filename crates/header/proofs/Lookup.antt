@@ -5,26 +5,28 @@ use mathlib.Core.Bool.{true, false}
 use mathlib.Core.List.{List, []}
 use Prim.Native.Nat.{ℕ, _<_}
 use native.Mathlib.Omega.{arith}
-use lib.ListN.{getD}
-use Rattle.card.proofs.Cases.{either}
-use Rattle.keyword.specs.declared.Found.{Found}
-use Rattle.keyword.specs.Names.{usedNames}
+use lib.ListN.{length, getD}
+use Rattle.ascii.proofs.Cases.{either}
+use Rattle.ascii.specs.declared.Found.{Found}
+use Rattle.keyword.specs.Names.{slotNames}
 use Rattle.header.specs.Records.{records, hasEnd, names}
-use Rattle.header.specs.Checks.{accepted, badLength, check1, check2, checked, namesRead, numbered, placed, indexBy}
-use Rattle.header.proofs.Indexed.{map-at}
-use Rattle.keyword.proofs.Slots.{used-length}
+use Rattle.refusal.specs.Refusal.{accepted}
+use Rattle.header.specs.Checks.{badLength, check1, check2, checked, namesRead, numbered, placed, indexBy}
+use Rattle.keyword.proofs.Position.{map-at}
 use Rattle.header.proofs.Pass.{placed-numbered}
 
 -- the record of the slot's name
-pub slot-place : (place : List ℕ → Found) (s : ℕ) → s < 2007 → placed (getD (indexBy place) s 0) ≡ place (getD usedNames s [])
+pub slot-place : (place : List ℕ → Found) (s : ℕ) → s < length slotNames
+    → placed (getD (indexBy place) s 0) ≡ place (getD slotNames s [])
 unfolding indexBy
-slot-place place s p =
-    ap placed (map-at (λ (n : List ℕ). numbered (place n)) usedNames s (omega (arith, used-length))) ∙ placed-numbered (place (getD usedNames s []))
+slot-place place s p = ap placed (map-at (λ (n : List ℕ). numbered (place n)) slotNames s 0 p)
+    ∙ placed-numbered (place (getD slotNames s []))
 
 module _ (h : List ℕ) (e : checked h ≡ accepted) where
   pub accepted-length : badLength h ≡ false
   unfolding checked check1
-  accepted-length = either (badLength h) (λ t. absurd (let w = rw t at e in let z : _≡_ {A = ℕ} 0 1 = cc in omega arith)) (λ t. t)
+  accepted-length =
+      either (badLength h) (λ t. absurd (let w = rw t at e in let z : _≡_ {A = ℕ} 0 1 = cc in omega arith)) (λ t. t)
 
   pub accepted-end : hasEnd (records h) ≡ true
   unfolding checked check1 check2

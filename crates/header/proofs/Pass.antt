@@ -1,22 +1,23 @@
 -- The pass over the records: the index after k records, one record more, and the index at END.
 -- Assumes nothing.
-use mathlib.Core.Path.{_≡_, refl, ap, subst, _∙_}
+use mathlib.Core.Path.{_≡_, refl, ap, _∙_}
 use mathlib.Core.Bool.{true, false}
 use mathlib.Core.List.{List, [], _∷_, _++_, map, map-append}
 use Prim.Native.Nat.{ℕ, zero, suc, _+_, _-_, _/_, _<_, _≤_}
 use native.Mathlib.Numerals.{add-one}
 use native.Mathlib.Omega.{arith}
-use lib.ListN.{length, take, getD, set, length-map}
+use lib.ListN.{length, take, length-map}
 use lib.Seq.{take-suc, length-take-le}
 use Rattle.card.specs.Record.{cardAt, isEnd, nameOf}
-use Rattle.keyword.specs.declared.Found.{Found}
-use Rattle.keyword.specs.declared.Found.the-variants.{At, Nothing}
-use Rattle.keyword.specs.Names.{usedNames, position}
+use Rattle.ascii.specs.declared.Found.{Found}
+use Rattle.ascii.specs.declared.Found.the-variants.{At, Nothing}
+use Rattle.keyword.specs.Names.{slotNames, onceNames, position}
 use Rattle.header.specs.Records.{records, hasEnd, names, repeated}
-use Rattle.header.specs.Checks.{refused, repetition, badLength, check1, check2, check3, checked, namesRead, recordOf, secondOf, numbered, placed, indexBy}
+use Rattle.refusal.specs.Refusal.{refused}
+use Rattle.header.specs.Checks.{repetition, badLength, check1, check2, check3, checked, namesRead, recordOf, secondOf, numbered, placed, indexBy}
+use Rattle.header.specs.Noting.{entryAt, stored, kept, keptAfter}
 use Rattle.header.proofs.Ends.{record-count, record-at, Open, open-ends, open-before, open-over}
-use Rattle.header.proofs.Snoc.{kept}
-use Rattle.header.proofs.Indexed.{Indexed, kept-after, indexed-none, indexed-one}
+use Rattle.header.proofs.Indexed.{Indexed, indexed-next}
 
 -- the names of the first k records
 abbrev pub namesTo : List ℕ → ℕ → List (List ℕ)
@@ -37,24 +38,26 @@ module _ (h : List ℕ) (k : ℕ) (p : k < length h / 80) where
 
   names-next : namesTo h (k + 1) ≡ namesTo h k ++ (nameOf (cardAt h k) ∷ [])
   names-next =
-      rw (add-one k, take-suc (records h) k [] inside, record-at h k p) (map-append nameOf (take k (records h)) (cardAt h k ∷ []))
+      rw (add-one k, take-suc (records h) k [] inside, record-at h k p)
+      (map-append nameOf (take k (records h)) (cardAt h k ∷ []))
 
   names-length : length (namesTo h k) ≡ k
   names-length = rw length-map (length-take-le k (records h) (omega (arith, inside)))
 
-  module _ (first later : List ℕ) (again : ℕ) (d : Indexed (namesTo h k) first later again) where
-    pub pass-unused : position (nameOf (cardAt h k)) usedNames ≡ Nothing → Indexed (namesTo h (k + 1)) first later again
-    pass-unused e = rw names-next (indexed-none (namesTo h k) (nameOf (cardAt h k)) e first later again d)
-
-    pub pass-used : (j a b c : ℕ) → position (nameOf (cardAt h k)) usedNames ≡ At j → a ≡ kept (getD first j 0) (k + 1)
-        → b ≡ kept-after (getD first j 0) (getD later j 0) (k + 1)
-        → c ≡ kept-after (getD first j 0) again (k + 1)
-        → Indexed (namesTo h (k + 1)) (set first j a) (set later j b) c
-    pass-used j a b c e ea eb ec =
-        rw (names-next, ea, eb, ec)
-        (subst (λ (n : ℕ). Indexed (namesTo h k ++ (nameOf (cardAt h k) ∷ [])) (set first j (kept (getD first j 0) (n + 1))) (set later j (kept-after (getD first j 0) (getD later j 0) (n + 1))) (kept-after (getD first j 0) again (n + 1)))
-        names-length
-        (indexed-one (namesTo h k) (nameOf (cardAt h k)) j e first later again d))
+  module _ (seen first later : List ℕ) (again : ℕ) (d : Indexed (namesTo h k) seen first later again) where
+    -- one record more, by what the code finds and stores
+    module _ (o s : Found) (eo : o ≡ position (nameOf (cardAt h k)) onceNames)
+        (es : s ≡ position (nameOf (cardAt h k)) slotNames)
+        (earlier old : ℕ) (ee : earlier ≡ entryAt seen o) (ef : old ≡ entryAt first s) where
+      pub pass-next : (seen′ first′ later′ : List ℕ) (again′ : ℕ)
+          → seen′ ≡ stored seen o (kept (entryAt seen o) (k + 1))
+          → first′ ≡ stored first s (kept (entryAt first s) (k + 1))
+          → later′ ≡ stored later s (keptAfter old (entryAt later s) (k + 1))
+          → again′ ≡ keptAfter earlier again (k + 1)
+          → Indexed (namesTo h (k + 1)) seen′ first′ later′ again′
+      pass-next seen′ first′ later′ again′ e₁ e₂ e₃ e₄ =
+          rw (names-next, e₁, e₂, e₃, e₄, ee, ef, eo, es)
+          (rw names-length at (indexed-next (namesTo h k) (nameOf (cardAt h k)) seen first later again d))
 
     module _ (good : badLength h ≡ false) (o : Open (records h) k) (t : isEnd (cardAt h k) ≡ true) where
       ends : hasEnd (records h) ≡ true

@@ -8,15 +8,15 @@ use native.Mathlib.Nat.{add-zero}
 use native.Mathlib.Omega.{arith}
 use lib.ListN.{length}
 use lib.Seq.{append-snoc}
-use lib.Dec.{eqb}
 use borrow.Author.Tests.{ne-eqb}
-use Rattle.card.specs.Text.{same}
-use Rattle.card.proofs.Cases.{either}
-use Rattle.keyword.specs.declared.Found.{Found}
-use Rattle.keyword.specs.declared.Found.the-variants.{At, Nothing}
-use Rattle.keyword.specs.Names.{usedNames, later, further, position}
+use Rattle.ascii.specs.Text.{same}
+use Rattle.ascii.proofs.Cases.{either}
+use Rattle.ascii.specs.declared.Found.{Found}
+use Rattle.ascii.specs.declared.Found.the-variants.{At, Nothing}
+use Rattle.keyword.specs.Names.{onceNames, later, further, position}
 use Rattle.header.specs.Records.{second, found, repeatedAfter}
 use Rattle.header.specs.Checks.{numbered}
+use Rattle.header.specs.Noting.{kept}
 use Rattle.keyword.proofs.Position.{or-else, position-append}
 
 -- a place m, if a test holds
@@ -56,16 +56,12 @@ module _ (n x : List ℕ) where
 
 pub repeated-snoc : (x : List ℕ) (seen xs : List (List ℕ))
     → repeatedAfter seen (xs ++ (x ∷ []))
-    ≡ or-else (repeatedAfter seen xs) (only (found (position x usedNames) && found (position x (seen ++ xs))) (length (seen ++ xs)))
+    ≡ or-else (repeatedAfter seen xs) (only (found (position x onceNames) && found (position x (seen ++ xs))) (length (seen ++ xs)))
 unfolding repeatedAfter
 repeated-snoc x seen [] = rw (append-nil seen)
 repeated-snoc x seen (y ∷ ys) =
-    let t = found (position y usedNames) && found (position y seen) in
+    let t = found (position y onceNames) && found (position y seen) in
     either t (λ e. rw e) (λ e. rw e (rw (append-snoc seen y ys) at (repeated-snoc x (seen ++ (y ∷ [])) ys)))
-
--- the number kept where the first one stays
-abbrev pub kept : ℕ → ℕ → ℕ
-kept old number = cond (eqb old 0) number old
 
 -- a place that is kept, as numbers
 pub numbered-kept : (f : Found) (m : ℕ) → numbered (or-else f (At m)) ≡ kept (numbered f) (m + 1)

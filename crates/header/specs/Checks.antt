@@ -5,22 +5,11 @@ use mathlib.Core.List.{List, [], map}
 use mathlib.Core.Bool.{Bool, not, _||_, cond}
 use lib.ListN.{length}
 use lib.Dec.{eqb, ltb}
-use Rattle.keyword.specs.declared.Found.{Found}
-use Rattle.keyword.specs.declared.Found.the-variants.{At, Nothing}
-use Rattle.header.specs.declared.HeaderCheck.{HeaderCheck}
-use Rattle.header.specs.declared.HeaderCheck.the-variants as C
-use Rattle.keyword.specs.Names.{usedNames, position}
+use Rattle.ascii.specs.declared.Found.{Found}
+use Rattle.ascii.specs.declared.Found.the-variants.{At, Nothing}
+use Rattle.refusal.specs.Refusal.{Outcome, accepted, refused, before}
+use Rattle.keyword.specs.Names.{slotNames, position}
 use Rattle.header.specs.Records.{records, hasEnd, names, second, repeated}
-
--- what a check, or all of them, come to: nothing to refuse, or a refusal's number and place
-pub data Outcome : Type 0 where
-  accepted : Outcome
-  refused : ℕ → ℕ → Outcome
-
--- one check before another: the first refusal decides
-abbrev pub before : Outcome → Outcome → Outcome
-before accepted o = o
-before (refused number place) o = refused number place
 
 -- a header of 0 bytes, above 57,600 or no multiple of 2,880
 unfoldable pub badLength : List ℕ → Bool
@@ -39,20 +28,13 @@ abbrev pub repetition : Found → Outcome
 repetition (At k) = refused 3 k
 repetition Nothing = accepted
 
--- 3: a used name twice with a value before END; the record of the first second one
+-- 3: a name that must not stand twice does so with a value before END; the record of the first second one
 unfoldable pub check3 : List ℕ → Outcome
 check3 h = repetition (repeated (names h))
 
 -- all three, in this order
 unfoldable pub checked : List ℕ → Outcome
 checked h = before (check1 h) (before (check2 h) (check3 h))
-
--- the number and place of each case of the code's answer
-abbrev pub outcome : HeaderCheck → Outcome
-outcome C.Passed = accepted
-outcome C.BadLength = refused 1 0
-outcome C.MissingEnd = refused 2 0
-outcome (C.RepeatedName k) = refused 3 k
 
 -- the names that are read: none where check 1 or 2 refuses
 unfoldable pub namesRead : List ℕ → List (List ℕ)
@@ -77,4 +59,4 @@ placed (suc k) = At k
 
 -- an index: for each slot the entry of a record of its name
 unfoldable pub indexBy : (List ℕ → Found) → List ℕ
-indexBy place = map (λ (n : List ℕ). numbered (place n)) usedNames
+indexBy place = map (λ (n : List ℕ). numbered (place n)) slotNames

@@ -5,10 +5,10 @@ use Prim.Native.Nat.{ℕ, _+_, _*_, _/_, min}
 use mathlib.Core.List.{List, [], _∷_, _++_, map}
 use mathlib.Core.Bool.{Bool, true, false, _&&_, _||_, cond}
 use lib.ListN.{length}
-use Rattle.card.specs.Text.{same}
+use Rattle.ascii.specs.Text.{same}
 use Rattle.card.specs.Record.{cardAt, isEnd, nameOf}
-use Rattle.keyword.specs.declared.Found.{Found}
-use Rattle.keyword.specs.declared.Found.the-variants.{At, Nothing}
+use Rattle.ascii.specs.declared.Found.{Found}
+use Rattle.ascii.specs.declared.Found.the-variants.{At, Nothing}
 use Rattle.keyword.specs.Names.{range, onceNames, later, position}
 
 -- the whole records of a header, in order

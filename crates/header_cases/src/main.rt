@@ -1,10 +1,10 @@
 // Prints what `card` and `header` say of each header in the file cases.bin.
 //
 // The file is a run of cases: a length in four bytes, high byte first, and as many bytes of header.
+use ascii::Found;
 use card::Value;
-use header::HeaderCheck;
-use keyword::Found;
 use libc::STDOUT_FILENO;
+use refusal::Check;
 ghost use Prim.Native.Nat.{_<_};
 
 fn put(text: &[u8]) {
@@ -59,25 +59,25 @@ fn print_slot(header: &[u8], slot: usize, first: Found, second: Found) {
 
 // Each slot that has a record, in order.
 fn print_slots(header: &[u8], first: &[u16], second: &[u16]) {
-    for slot in 0..keyword::SLOTS {
+    for slot in 0..first.len() {
         let found = header::record_of(first, slot);
         print_slot(header, slot, found, header::record_of(second, slot));
     }
 }
 
 // The number and place that docs/FORMAT.md gives.
-fn print_refusal(number: u64, place: usize) {
+fn print_refusal(number: u64, place: u64) {
     put_number(b"refused ", number);
-    put_number(b" ", place as u64);
+    put_number(b" ", place);
     put(b"\n");
 }
 
-fn print_check(check: HeaderCheck) {
+fn print_check(check: Check) {
     match check {
-        HeaderCheck::Passed => put(b"passed\n"),
-        HeaderCheck::BadLength => print_refusal(1, 0),
-        HeaderCheck::MissingEnd => print_refusal(2, 0),
-        HeaderCheck::RepeatedName { record } => print_refusal(3, record),
+        Check::Passed => put(b"passed\n"),
+        Check::Refused(refusal) => {
+            print_refusal(refusal::number(refusal), refusal::place(refusal))
+        }
     }
 }
 

@@ -2,17 +2,17 @@
 -- Assumes nothing.
 use mathlib.Core.Path.{_≡_, refl, sym, ap, subst, _∙_}
 use mathlib.Core.Bool.{Bool, true, false, cond}
-use mathlib.Core.List.{List, [], _∷_, map}
+use mathlib.Core.List.{List, [], _∷_, _++_, map, map-append}
 use Prim.Native.Nat.{ℕ, zero, suc, _+_, _-_, _*_, _/_, _%_, _<_, _≤_}
 use native.Mathlib.Omega.{arith}
 use lib.ListN.{length, drop, getD, drop-of-length-le, length-map}
 use lib.Seq.{drop-cons}
 use lib.Dec.{ltb}
 use borrow.Author.Tests.{lt-ltb, le-ltb, ltb-true, ltb-false}
-use Rattle.keyword.specs.declared.Found.the-variants.{At, Nothing}
-use Rattle.card.specs.Text.{decimal}
-use Rattle.keyword.specs.Names.{range, numeral, position}
-use Rattle.keyword.proofs.Position.{position-at, position-no, position-value, length-range}
+use Rattle.ascii.specs.declared.Found.the-variants.{At, Nothing}
+use Rattle.ascii.specs.Text.{decimal}
+use Rattle.keyword.specs.Names.{range, numeral, position, indexLimit}
+use Rattle.keyword.proofs.Position.{position-at, position-no, position-value, position-front, below, range-append, length-range}
 
 -- a digit
 abbrev pub Digit : ℕ → Type 0
@@ -115,19 +115,31 @@ numeral-says (a ∷ b ∷ c ∷ d ∷ s) h = absurd (omega arith)
 pub numeral-injective : (m n : ℕ) → m < 1000 → n < 1000 → numeral m ≡ numeral n → m ≡ n
 numeral-injective m n p q e = sym (value-numeral m p) ∙ ap (decimal 0) e ∙ value-numeral n q
 
-pub index-at : (n : ℕ) → 1 ≤ n → n < 1000 → position (numeral n) (map numeral (range 1 999)) ≡ At (n - 1)
-index-at n p q = position-value numeral n 1 999 (λ k u v. numeral-injective n k q (omega arith)) p q
+pub index-at : (n : ℕ) → 1 ≤ n → n ≤ indexLimit → position (numeral n) (map numeral (range 1 indexLimit)) ≡ At (n - 1)
+index-at n p q = position-value numeral n 1 indexLimit (λ k u v. numeral-injective n k (omega arith) (omega arith)) p (omega arith)
 
-pub index-of : (s : List ℕ) → Numeral s → position s (map numeral (range 1 999)) ≡ At (decimal 0 s - 1)
+pub index-of : (s : List ℕ) → Numeral s → position s (map numeral (range 1 indexLimit)) ≡ At (decimal 0 s - 1)
 index-of s h =
     let t = numeral-says s h in
-    subst (λ (l : List ℕ). position l (map numeral (range 1 999)) ≡ At (decimal 0 s - 1)) (t .again) (index-at (decimal 0 s) (t .least) (t .most))
+    subst (λ (l : List ℕ). position l (map numeral (range 1 indexLimit)) ≡ At (decimal 0 s - 1)) (t .again)
+    (index-at (decimal 0 s) (t .least) (omega (arith, t .most)))
 
-pub index-none : (s : List ℕ) → (Numeral s → ⊥) → position s (map numeral (range 1 999)) ≡ Nothing
-index-none s h = position-no s numeral 1 999 (λ k p q e. h (subst Numeral (sym e) (numeral-is k p q)))
+pub index-none : (s : List ℕ) → (Numeral s → ⊥) → position s (map numeral (range 1 indexLimit)) ≡ Nothing
+index-none s h = position-no s numeral 1 indexLimit (λ k p q e. h (subst Numeral (sym e) (numeral-is k p q)))
 
-pub index-below : (s : List ℕ) (k : ℕ) → position s (map numeral (range 1 999)) ≡ At k → k < 999
-index-below s k h = subst (λ (l : ℕ). k < l) (length-map (range 1 999) numeral ∙ length-range 1 999) (position-at s (map numeral (range 1 999)) k h .0)
+pub index-below : (s : List ℕ) (k : ℕ) → position s (map numeral (range 1 indexLimit)) ≡ At k → k < indexLimit
+index-below s k h =
+    subst (λ (l : ℕ). k < l) (length-map (range 1 indexLimit) numeral ∙ length-range 1 indexLimit)
+    (position-at s (map numeral (range 1 indexLimit)) k h .0)
+
+-- among the first numerals
+pub index-front : (s : List ℕ) (count : ℕ) → count ≤ indexLimit → position s (map numeral (range 1 count)) ≡ below count (position s (map numeral (range 1 indexLimit)))
+index-front s count h =
+    let m = map numeral (range 1 count) in let t = map numeral (range (1 + count) (indexLimit - count)) in
+    let l : length m ≡ count = length-map (range 1 count) numeral ∙ length-range 1 count in
+    let e : map numeral (range 1 indexLimit) ≡ m ++ t =
+    ap (λ (k : ℕ). map numeral (range 1 k)) (omega arith) ∙ ap (map numeral) (range-append 1 count (indexLimit - count)) ∙ map-append numeral (range 1 count) _ in
+    position-front s m t ∙ rw (l, ← e)
 
 -- how a loop reads the number, one digit at a time
 module _ (s : List ℕ) (n i : ℕ) where

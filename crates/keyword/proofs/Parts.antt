@@ -1,26 +1,47 @@
--- The list of used names by its parts: the single names, the TFORM names, the TTYPE names. A name's first five bytes tell which part can have it.
+-- Where a name stands among the single names and the names of some roots: its first five bytes tell which of them
+-- can have it.
 -- Assumes nothing.
-use mathlib.Core.Path.{_≡_, refl, sym, ap, subst, _∙_}
-use mathlib.Core.List.{List, _++_, map}
-use Prim.Native.Nat.{ℕ, _+_, _-_, _<_, _≤_}
+use mathlib.Core.Path.{_≡_, refl, sym, ap, _∙_}
+use mathlib.Core.Bool.{true, false, cond}
+use mathlib.Core.List.{List, [], _∷_, _++_, map, flatMap, flatten}
+use Prim.Native.Nat.{ℕ, zero, suc, _+_, _*_, _<_, _≤_}
+use native.Mathlib.Nat.{zero-mul, suc-mul, le-of-suc-le-suc}
 use native.Mathlib.Omega.{arith}
-use lib.ListN.{length, take, drop, getD, length-append, length-map, length-drop, take-append-drop}
-use lib.Seq.{take-all, take-at}
-use borrow.Author.Tests.{eqb-false}
-use Rattle.keyword.specs.declared.Found.{Found}
-use Rattle.keyword.specs.declared.Found.the-variants.{At, Nothing}
-use Rattle.card.specs.Text.{bytes, same}
-use Rattle.keyword.specs.Names.{further, range, numeral, indexed, single, usedNames, position}
-use Rattle.keyword.proofs.Position.{or-else, position-append, position-root, position-no, length-range}
-use Rattle.keyword.proofs.Numerals.{numeral-is}
+use lib.ListN.{length, take, drop, getD, replicate, length-append, length-map, take-append-drop}
+use lib.Seq.{take-all, take-at, drop-append-add}
+use lib.Dec.{ltb}
+use borrow.Author.Tests.{lt-ltb}
+use Rattle.ascii.specs.Text.{bytes, same}
+use Rattle.ascii.proofs.Cases.{either, by-test}
+use Rattle.ascii.proofs.Same.{same-true, same-not}
+use Rattle.ascii.specs.declared.Found.{Found}
+use Rattle.ascii.specs.declared.Found.the-variants.{At, Nothing}
+use Rattle.keyword.specs.Names.{later, further, range, numeral, indexLimit, columnSlots, indexed, single, onceRoots, otherRoots, roots, namesUpTo, slotNames, onceNames, position}
+use Rattle.keyword.proofs.Position.{or-else, further-zero, below, position-append, position-front, position-at, position-root, position-no, length-range, map-at}
+use Rattle.keyword.proofs.Numerals.{index-front, index-below}
 
-pub length-indexed : (root : List ℕ) → length (indexed root) ≡ 999
+-- each root has five bytes
+abbrev Fives : List (List ℕ) → Type 0
+Fives rs = map length rs ≡ replicate (length rs) 5
+
+-- what is computed of a list of roots: each has five bytes and its own place in the list, and no single name has one
+-- in front
+pub record Rooted (rs : List (List ℕ)) : Type 0 where
+  pub fives : Fives rs
+  pub own : map (λ (x : List ℕ). position x rs) rs ≡ map At (range 0 (length rs))
+  pub apart : map (λ (x : List ℕ). position (take 5 x) rs) single ≡ map (λ (x : List ℕ). Nothing) single
+
+pub all-rooted : Rooted roots
+unfolding onceRoots otherRoots single position range bytes same
+all-rooted = record { fives = refl; own = refl; apart = refl }
+
+pub once-rooted : Rooted onceRoots
+unfolding onceRoots single position range bytes same
+once-rooted = record { fives = refl; own = refl; apart = refl }
+
+pub length-indexed : (count : ℕ) (root : List ℕ) → length (indexed count root) ≡ count
 unfolding indexed
-length-indexed root = rw (length-map, length-range)
-
-pub length-single : length single ≡ 9
-unfolding single
-length-single = refl
+length-indexed count root = rw (length-map, length-range)
 
 or-nothing : (f : Found) → or-else f Nothing ≡ f
 or-nothing (At k) = refl
@@ -30,80 +51,167 @@ further-further : (a b : ℕ) (f : Found) → further a (further b f) ≡ furthe
 further-further a b (At k) = ap At (omega arith)
 further-further a b Nothing = refl
 
--- a name is found among the single names, else among the TFORM names, else among the TTYPE names
-pub used-parts : (n : List ℕ)
-    → position n usedNames ≡ or-else (position n single) (further 9 (or-else (position n (indexed (bytes "TFORM"))) (further 999 (position n (indexed (bytes "TTYPE"))))))
-unfolding usedNames
-used-parts n = simp (position-append, length-single, length-indexed)
+-- the place of name d of root r, where each root has `count` names
+abbrev times : ℕ → Found → Found → Found
+times count (At r) d = further (r * count) d
+times count Nothing d = Nothing
 
-not-indexed : (n root : List ℕ) → ((k : ℕ) → 1 ≤ k → k < 1000 → n ≡ root ++ numeral k → ⊥) → position n (indexed root) ≡ Nothing
-unfolding indexed
-not-indexed n root h = position-no n (λ (k : ℕ). root ++ numeral k) 1 999 h
+times-nothing : (count : ℕ) (f : Found) → times count f Nothing ≡ Nothing
+times-nothing count (At r) = refl
+times-nothing count Nothing = refl
 
-indexed-root : (root ds : List ℕ) → position (root ++ ds) (indexed root) ≡ position ds (map numeral (range 1 999))
-unfolding indexed
-indexed-root root ds = position-root root ds numeral (range 1 999)
+times-later : (count : ℕ) (f d : Found) → further count (times count f d) ≡ times count (later f) d
+times-later count (At r) d =
+    rw suc-mul (further-further count (r * count) d ∙ ap (λ (b : ℕ). further b d) (omega arith))
+times-later count Nothing d = refl
 
--- the two roots differ at the second byte
-roots-differ : (ds es : List ℕ) → bytes "TFORM" ++ ds ≡ bytes "TTYPE" ++ es → ⊥
-unfolding bytes
-roots-differ ds es e = eqb-false 70 84 refl (ap (λ (l : List ℕ). getD l 1 0) e)
+-- a name with a root in front is no single name
+pub none-single : (n : List ℕ) (rs : List (List ℕ)) → Rooted rs → (r : ℕ) → position (take 5 n) rs ≡ At r
+    → position n single ≡ Nothing
+none-single n rs w r e = by (position n single) refl
+  where
+    by : (f : Found) → position n single ≡ f → f ≡ Nothing
+    by Nothing q = refl
+    by (At s) q =
+        let p = position-at n single s q in
+        let g : List ℕ → Found = λ x. position (take 5 x) rs in
+        let u : g (getD single s []) ≡ Nothing =
+        sym (map-at g single s Nothing (p .0)) ∙ ap (λ (l : List Found). getD l s Nothing) (w .apart)
+        ∙ map-at (λ (x : List ℕ). Nothing) single s Nothing (p .0) in
+        let v = rw (p .1) at u in
+        absurd (let z : _≡_ {A = ℕ} 0 1 = cc in omega arith)
 
-module _ (ds : List ℕ) where
-  tform-single : position (bytes "TFORM" ++ ds) single ≡ Nothing
-  unfolding position single bytes same
-  tform-single = refl
+-- of the first root of a list and the others
+module _ (root : List ℕ) (rs : List (List ℕ)) where
+  first-five : Fives (root ∷ rs) → length root ≡ 5
+  first-five e = ap (λ (l : List ℕ). getD l 0 0) e
 
-  ttype-single : position (bytes "TTYPE" ++ ds) single ≡ Nothing
-  unfolding position single bytes same
-  ttype-single = refl
+  other-fives : Fives (root ∷ rs) → Fives rs
+  other-fives e = ap (drop 1) e
 
-  pub used-tform : position (bytes "TFORM" ++ ds) usedNames ≡ further 9 (position ds (map numeral (range 1 999)))
-  used-tform =
-      used-parts (bytes "TFORM" ++ ds)
-      ∙ rw (
-        tform-single,
-        indexed-root (bytes "TFORM") ds,
-        not-indexed (bytes "TFORM" ++ ds) (bytes "TTYPE") (λ k _ _. roots-differ ds (numeral k)),
-        or-nothing,
-      )
+pub root-length : (rs : List (List ℕ)) (r : ℕ) → Fives rs → r < length rs → length (getD rs r []) ≡ 5
+root-length [] r h p = absurd (omega arith)
+root-length (root ∷ rs) zero h p = first-five root rs h
+root-length (root ∷ rs) (suc r) h p = root-length rs r (other-fives root rs h) (le-of-suc-le-suc p)
 
-  pub used-ttype : position (bytes "TTYPE" ++ ds) usedNames ≡ further 1008 (position ds (map numeral (range 1 999)))
-  used-ttype =
-      used-parts (bytes "TTYPE" ++ ds)
-      ∙ rw (
-        ttype-single,
-        indexed-root (bytes "TTYPE") ds,
-        not-indexed (bytes "TTYPE" ++ ds) (bytes "TFORM") (λ k _ _ e. roots-differ (numeral k) ds (sym e)),
-      )
-      (further-further 9 999 (position ds (map numeral (range 1 999))))
+-- the roots one after the other
+pub words-length : (rs : List (List ℕ)) → Fives rs → length (flatten rs) ≡ length rs * 5
+unfolding flatten
+words-length [] h = refl
+words-length (root ∷ rs) h =
+    rw (length-append, words-length rs (other-fives root rs h), first-five root rs h) (omega arith)
 
--- a name with a root in front is longer than the root
-longer : (root : List ℕ) (k : ℕ) → length root ≡ 5 → 1 ≤ k → k < 1000 → 5 < length (root ++ numeral k)
-longer root k h p q = simp length-append (omega (arith, numeral-is k p q .some))
+pub word-at : (rs : List (List ℕ)) (r : ℕ) → Fives rs → r < length rs
+    → take 5 (drop (r * 5) (flatten rs)) ≡ getD rs r []
+unfolding flatten
+word-at [] r h p = absurd (omega arith)
+word-at (root ∷ rs) zero h p = take-at root (flatten rs) 5 (first-five root rs h)
+word-at (root ∷ rs) (suc r) h p =
+    let e : suc r * 5 ≡ length root + r * 5 = omega (arith, first-five root rs h) in
+    let d : drop (suc r * 5) (root ++ flatten rs)
+    ≡ drop (r * 5) (flatten rs) = rw e (drop-append-add root (flatten rs) (r * 5)) in
+    ap (take 5) d ∙ word-at rs r (other-fives root rs h) (le-of-suc-le-suc p)
 
--- the three cases of `slot`, by the first five bytes
+module _ (n : List ℕ) (count : ℕ) where
+  -- the bytes after the root as a numeral
+  abbrev digits : Found
+  digits = position (drop 5 n) (map numeral (range 1 count))
+
+  -- the names of one root, by whether it is in front
+  module _ (root : List ℕ) (h : length root ≡ 5) where
+    not-root : same (take 5 n) root ≡ false → position n (indexed count root) ≡ Nothing
+    unfolding indexed
+    not-root e =
+        position-no n (λ (k : ℕ). root ++ numeral k) 1 count
+        (λ k p q w. same-not (take 5 n) root e (ap (take 5) w ∙ take-at root (numeral k) 5 h))
+
+    is-root : same (take 5 n) root ≡ true → position n (indexed count root) ≡ digits
+    unfolding indexed
+    is-root e =
+        let m = sym (take-append-drop 5 n) ∙ ap (λ (l : List ℕ). l ++ drop 5 n) (same-true (take 5 n) root e) in
+        ap (λ (l : List ℕ). position l (indexed count root)) m ∙ position-root root (drop 5 n) numeral (range 1 count)
+
+  -- the first of several roots is in front
+  first : (f d : Found) → or-else d (further count (times count f d)) ≡ times count (At 0) d
+  first f (At k) = rw zero-mul (sym (further-zero (At k)))
+  first f Nothing = ap (further count) (times-nothing count f)
+
+  -- the names of all roots, by the place of the first five bytes among the roots
+  in-roots : (rs : List (List ℕ)) → Fives rs
+      → position n (flatMap (indexed count) rs) ≡ times count (position (take 5 n) rs) digits
+  unfolding flatMap position
+  in-roots [] h = refl
+  in-roots (root ∷ rs) h =
+      let l = first-five root rs h in let f = position (take 5 n) rs in
+      position-append n (indexed count root) (flatMap (indexed count) rs)
+      ∙ rw (length-indexed count root, in-roots rs (other-fives root rs h))
+      (either (same (take 5 n) root) (λ t. rw (t, is-root root l t) (first f digits))
+      (λ t. rw (t, not-root root l t) (times-later count f digits)))
+
+  -- all the names
+  module _ (most : count ≤ indexLimit) (rs : List (List ℕ)) (w : Rooted rs) where
+    names-parts : position n (namesUpTo count rs)
+        ≡ or-else (position n single) (further (length single) (times count (position (take 5 n) rs) digits))
+    names-parts = position-append n single (flatMap (indexed count) rs) ∙ rw (in-roots rs (w .fives))
+
+    pub names-single : position (take 5 n) rs ≡ Nothing → position n (namesUpTo count rs) ≡ position n single
+    names-single e = names-parts ∙ rw e (or-nothing (position n single))
+
+    pub names-root : (r : ℕ) → position (take 5 n) rs ≡ At r
+        → position n (namesUpTo count rs)
+        ≡ further (length single + r * count) (below count (position (drop 5 n) (map numeral (range 1 indexLimit))))
+    names-root r e =
+        names-parts ∙ rw (none-single n rs w r e, e) (further-further (length single) (r * count) digits)
+        ∙ ap (further (length single + r * count)) (index-front (drop 5 n) count most)
+
+-- the places that the code gives, by the first five bytes of a name
 module _ (n : List ℕ) where
-  not-rooted : (root : List ℕ) → length root ≡ 5 → (5 < length n → take 5 n ≡ root → ⊥) → position n (indexed root) ≡ Nothing
-  not-rooted root h other =
-      not-indexed n root
-      (λ k p q e. other (subst (λ (l : List ℕ). 5 < length l) (sym e) (longer root k h p q)) (ap (take 5) e ∙ take-at root (numeral k) 5 h))
+  -- the bytes after the root
+  abbrev index : Found
+  index = position (drop 5 n) (map numeral (range 1 indexLimit))
 
-  pub slot-other : (5 < length n → take 5 n ≡ bytes "TFORM" → ⊥) → (5 < length n → take 5 n ≡ bytes "TTYPE" → ⊥) → position n usedNames ≡ position n single
-  unfolding bytes
-  slot-other p q = used-parts n ∙ rw (not-rooted (bytes "TFORM") refl p, not-rooted (bytes "TTYPE") refl q) (or-nothing (position n single))
+  once-root : position (take 5 n) onceRoots ≡ below (length onceRoots) (position (take 5 n) roots)
+  once-root = position-front (take 5 n) onceRoots otherRoots
 
-  -- the bytes after the root, as the code takes them
-  abbrev after : List ℕ
-  after = take (length n - 5) (drop 5 n)
+  pub short-name : length n < 5 → position (take 5 n) roots ≡ Nothing
+  short-name h = rw (take-all 5 n (omega arith)) (by (position n roots) refl)
+    where
+      by : (f : Found) → position n roots ≡ f → f ≡ Nothing
+      by Nothing q = refl
+      by (At s) q =
+          let p = position-at n roots s q in
+          let l = rw (p .1) at (root-length roots s (all-rooted .fives) (p .0)) in
+          absurd (omega arith)
 
-  rooted : (root : List ℕ) → take 5 n ≡ root → n ≡ root ++ after
-  rooted root h =
-      let a : after ≡ drop 5 n = take-all (length n - 5) (drop 5 n) (simp length-drop (omega arith)) in
-      rw (a, ← h) (sym (take-append-drop 5 n))
+  module _ (e : position (take 5 n) roots ≡ Nothing) where
+    pub single-slot : position n slotNames ≡ position n single
+    unfolding slotNames
+    single-slot = names-single n columnSlots (omega arith) roots all-rooted e
 
-  pub slot-tform : take 5 n ≡ bytes "TFORM" → position n usedNames ≡ further 9 (position (take (length n - 5) (drop 5 n)) (map numeral (range 1 999)))
-  slot-tform h = ap (λ (l : List ℕ). position l usedNames) (rooted (bytes "TFORM") h) ∙ used-tform after
+    pub single-once : position n onceNames ≡ position n single
+    unfolding onceNames
+    single-once =
+        names-single n indexLimit (omega arith) onceRoots once-rooted (once-root ∙ ap (below (length onceRoots)) e)
 
-  pub slot-ttype : take 5 n ≡ bytes "TTYPE" → position n usedNames ≡ further 1008 (position (take (length n - 5) (drop 5 n)) (map numeral (range 1 999)))
-  slot-ttype h = ap (λ (l : List ℕ). position l usedNames) (rooted (bytes "TTYPE") h) ∙ used-ttype after
+  module _ (r : ℕ) (e : position (take 5 n) roots ≡ At r) where
+    pub rooted-slot : position n slotNames ≡ further (length single + r * columnSlots) (below columnSlots index)
+    unfolding slotNames
+    rooted-slot = names-root n columnSlots (omega arith) roots all-rooted r e
+
+    limited : (f : Found) → index ≡ f → below indexLimit f ≡ f
+    limited (At k) q = rw (lt-ltb k indexLimit (index-below (drop 5 n) k q))
+    limited Nothing q = refl
+
+    pub rooted-once : position n onceNames
+        ≡ cond (ltb r (length onceRoots)) (further (length single + r * indexLimit) index) Nothing
+    unfolding onceNames
+    rooted-once =
+        let f = once-root ∙ ap (below (length onceRoots)) e in
+        by-test (λ (x : Found). position n onceNames ≡ x) (ltb r (length onceRoots))
+        (λ t. names-root n indexLimit (omega arith) onceRoots once-rooted r (rw t at f)
+        ∙ ap (further (length single + r * indexLimit)) (limited index refl))
+        (λ t. names-single n indexLimit (omega arith) onceRoots once-rooted (rw t at f)
+        ∙ none-single n roots all-rooted r e)
+
+    pub none-once : index ≡ Nothing → position n onceNames ≡ Nothing
+    none-once d = rooted-once ∙ rw d (either (ltb r (length onceRoots)) (λ t. rw t) (λ t. rw t))

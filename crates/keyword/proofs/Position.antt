@@ -1,20 +1,20 @@
 -- Laws of `position`: its cases, what a place says, a place in two lists one after the other, and a place among the values of a function.
 -- Assumes nothing.
-use mathlib.Core.Path.{_≡_, refl, sym, ap, _∙_}
+use mathlib.Core.Path.{_≡_, refl, sym, ap, ap₂, _∙_}
 use mathlib.Core.Bool.{Bool, true, false, cond}
 use mathlib.Core.List.{List, [], _∷_, _++_, map}
 use Prim.Native.Nat.{ℕ, zero, suc, _+_, _-_, _<_, _≤_}
-use native.Mathlib.Nat.{zero-add, add-zero, suc-add}
+use native.Mathlib.Nat.{zero-add, add-zero, suc-add, add-suc, le-of-suc-le-suc}
 use native.Mathlib.Omega.{arith}
 use lib.ListN.{length, drop, getD}
 use lib.Seq.{drop-cons, drop-length}
-use lib.Dec.{eqb}
-use borrow.Author.Tests.{eqb-true, eqb-false}
-use Rattle.keyword.specs.declared.Found.{Found}
-use Rattle.keyword.specs.declared.Found.the-variants.{At, Nothing}
-use Rattle.card.specs.Text.{same}
+use lib.Dec.{eqb, ltb}
+use borrow.Author.Tests.{eqb-true, eqb-false, lt-ltb, le-ltb}
+use Rattle.ascii.specs.declared.Found.{Found}
+use Rattle.ascii.specs.declared.Found.the-variants.{At, Nothing}
+use Rattle.ascii.specs.Text.{same}
 use Rattle.keyword.specs.Names.{further, range, later, position}
-use Rattle.card.proofs.Same.{same-true, same-refl, same-false, same-root}
+use Rattle.ascii.proofs.Same.{same-true, same-refl, same-false, same-root}
 
 module _ (n x : List ℕ) (xs : List (List ℕ)) where
   pub position-here : same n x ≡ true → position n (x ∷ xs) ≡ At 0
@@ -53,7 +53,7 @@ abbrev pub or-else : Found → Found → Found
 or-else (At k) g = At k
 or-else Nothing g = g
 
-further-zero : (f : Found) → further 0 f ≡ f
+pub further-zero : (f : Found) → further 0 f ≡ f
 further-zero (At k) = ap At (zero-add k)
 further-zero Nothing = refl
 
@@ -80,6 +80,23 @@ position-append n [] ys = sym (further-zero (position n ys))
 position-append n (x ∷ xs) ys =
     rw (position-append n xs ys, later-or, ← further-suc) (cond-or (same n x) (later (position n xs)) (further (suc (length xs)) (position n ys)))
 
+-- a place, if it is below m
+abbrev pub below : ℕ → Found → Found
+below m (At k) = cond (ltb k m) (At k) Nothing
+below m Nothing = Nothing
+
+-- in the first of two lists, one after the other
+pub position-front : (n : List ℕ) (xs ys : List (List ℕ)) → position n xs ≡ below (length xs) (position n (xs ++ ys))
+position-front n xs ys = by (position n xs) refl ∙ ap (below (length xs)) (sym (position-append n xs ys))
+  where
+    past : (f : Found) → Nothing ≡ below (length xs) (further (length xs) f)
+    past (At k) = rw (le-ltb (length xs + k) (length xs) (omega arith))
+    past Nothing = refl
+
+    by : (f : Found) → position n xs ≡ f → f ≡ below (length xs) (or-else f (further (length xs) (position n ys)))
+    by (At k) e = rw (lt-ltb k (length xs) (position-at n xs k e .0))
+    by Nothing e = past (position n ys)
+
 -- where each name has the same bytes in front, they say nothing
 pub position-root : (root n : List ℕ) (f : ℕ → List ℕ) (xs : List ℕ) → position (root ++ n) (map (λ (k : ℕ). root ++ f k) xs) ≡ position n (map f xs)
 unfolding position
@@ -91,7 +108,18 @@ unfolding range
 length-range a zero = refl
 length-range a (suc count) = ap suc (length-range (suc a) count)
 
--- the value at a place of a range
+pub range-append : (a m k : ℕ) → range a (m + k) ≡ range a m ++ range (a + m) k
+unfolding range
+range-append a zero k = ap₂ range (sym (add-zero a)) (zero-add k)
+range-append a (suc m) k =
+    rw suc-add (ap (λ (l : List ℕ). a ∷ l) (range-append (suc a) m k ∙ ap (λ (b : ℕ). range (suc a) m ++ range b k) (suc-add a m ∙ sym (add-suc a m))))
+
+-- the value at a place of a list of names, and of a range
+pub map-at : {B : Type 0} (f : List ℕ → B) (us : List (List ℕ)) (j : ℕ) (d : B) → j < length us → getD (map f us) j d ≡ f (getD us j [])
+map-at f [] j d p = absurd (omega arith)
+map-at f (u ∷ us) zero d p = refl
+map-at f (u ∷ us) (suc j) d p = map-at f us j d (le-of-suc-le-suc p)
+
 pub range-at : {B : Type 0} (f : ℕ → B) (a count i : ℕ) (d : B) → i < count → getD (map f (range a count)) i d ≡ f (a + i)
 unfolding range
 range-at f a zero i d h = absurd (omega arith)

@@ -1,4 +1,3 @@
 pub mod Quotes
 pub mod Named
 pub mod Ok
-pub mod Decided

@@ -10,8 +10,8 @@ use lib.Dec.{ltb}
 use lib.ListN.{length, getD, take, drop, drop-of-length-le, List·getD-eq-default, length-take}
 use lib.Seq.{drop-cons, getD-take}
 use borrow.Author.Tests.{le-leb, lt-leb, lt-ltb, le-ltb}
-use Rattle.card.proofs.Cases.{either}
-use Rattle.keyword.specs.declared.Found.the-variants.{At, Nothing}
+use Rattle.ascii.proofs.Cases.{either}
+use Rattle.ascii.specs.declared.Found.the-variants.{At, Nothing}
 use Rattle.layout.specs.declared.Name.{Name}
 use Rattle.layout.specs.declared.Name.the-variants.{Missing, Stretch}
 use Rattle.layout.specs.declared.Column.{Column}

@@ -10,8 +10,8 @@ use lib.Dec.{eqb, ltb}
 use lib.ListN.{length, getD, drop, drop-of-length-le, List·getD-eq-default}
 use lib.Seq.{drop-cons, drop-drop, getD-drop}
 use borrow.Author.Tests.{eq-eqb, ne-eqb, eqb-true, eqb-false, ltb-true, ltb-false}
-use Rattle.card.specs.Text.{same}
-use Rattle.card.proofs.Cases.{either, by-test, both}
+use Rattle.ascii.specs.Text.{same}
+use Rattle.ascii.proofs.Cases.{either, by-test, both}
 use Rattle.layout.specs.Names.{undoubled}
 
 -- how many bytes count as the one at i

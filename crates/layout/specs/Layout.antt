@@ -5,6 +5,7 @@ use mathlib.Core.List.{List, [], _∷_}
 use mathlib.Core.Bool.{Bool, _&&_}
 use lib.ListN.{take, replicate}
 use lib.Dec.{eqb, leb}
+use Rattle.keyword.specs.Names.{columnSlots}
 use Rattle.tform.specs.declared.VariableArrayTy.the-variants.{L}
 use Rattle.tform.specs.declared.TFormType.the-variants.{Items}
 use Rattle.tform.specs.Width.{fieldBytes, countOk}
@@ -23,7 +24,7 @@ abbrev pub pcountLimit : ℕ
 pcountLimit = 2147483647
 
 abbrev pub tfieldsLimit : ℕ
-tfieldsLimit = 64
+tfieldsLimit = columnSlots
 
 -- so main size + PCOUNT is at most this
 abbrev pub dataLimit : ℕ

@@ -1,12 +1,11 @@
-// The layout of a binary table as a plain value: its limits and sums, the names of its columns, and the refusals.
+// The layout of a binary table as a plain value: its limits and sums, and the names of its columns.
 mod limits;
 mod ttype;
 
 ghost use mathlib.Core.Path.{_≡_};
-ghost use Rattle.layout.specs.Refusal.{numberOf, placeOf};
 ghost use Rattle.layout.specs.Layout.{layoutOk};
 ghost use Rattle.layout.specs.Names.{columnName, findName};
-use keyword::Found;
+use ascii::Found;
 use tform::TFormType;
 
 // The limits of this reader.
@@ -16,32 +15,8 @@ pub const NAXIS2_LIMIT: u64 = 16777216;
 
 pub const PCOUNT_LIMIT: u64 = 2147483647;
 
-pub const TFIELDS_LIMIT: usize = 64;
-
-// The causes of a refusal. docs/FORMAT.md, section 10, gives each its number and place.
-pub enum Refusal {
-    BadLength,
-    MissingEnd,
-    RepeatedName { record: usize },
-    MissingName { n: usize },
-    UnreadableValue { record: usize },
-    InvalidValue { record: usize },
-    AboveLimit { record: usize },
-    BadForm { n: usize },
-    RowSizeMismatch,
-    // The data area is too short. In the calls that read cells also: the layout breaks a limit or sum, or the cursor does not belong to it.
-    Mismatch,
-    // Those of the calls after the layout.
-    NoColumn,
-    NoSuchRow { row: usize },
-    ArrayOutsideHeap { column: usize },
-    ShortList { cells: u64 },
-}
-
-pub enum Check {
-    Passed,
-    Refused(Refusal),
-}
+// Each column has a slot for each of its names.
+pub const TFIELDS_LIMIT: usize = keyword::COLUMN_SLOTS;
 
 // Where a column's name stands in the header, between the quotes, trailing spaces off.
 pub enum Name {
@@ -65,50 +40,6 @@ pub struct BinTable {
     pub theap: u64,
     pub tfields: usize,
     pub columns: [Column; TFIELDS_LIMIT],
-}
-
-// The number of a refusal.
-pub fn number(refusal: Refusal) -> u64
-    ensures { λ r. ⌜ r ≡ numberOf refusal ⌝ }
-{
-    match refusal {
-        Refusal::BadLength => 1,
-        Refusal::MissingEnd => 2,
-        Refusal::RepeatedName { record: _ } => 3,
-        Refusal::MissingName { n: _ } => 4,
-        Refusal::UnreadableValue { record: _ } => 5,
-        Refusal::InvalidValue { record: _ } => 6,
-        Refusal::AboveLimit { record: _ } => 7,
-        Refusal::BadForm { n: _ } => 8,
-        Refusal::RowSizeMismatch => 9,
-        Refusal::Mismatch => 10,
-        Refusal::NoColumn => 11,
-        Refusal::NoSuchRow { row: _ } => 12,
-        Refusal::ArrayOutsideHeap { column: _ } => 13,
-        Refusal::ShortList { cells: _ } => 14,
-    }
-}
-
-// The place of a refusal.
-pub fn place(refusal: Refusal) -> u64
-    ensures { λ r. ⌜ r ≡ placeOf refusal ⌝ }
-{
-    match refusal {
-        Refusal::BadLength => 0,
-        Refusal::MissingEnd => 0,
-        Refusal::RepeatedName { record } => record as u64,
-        Refusal::MissingName { n } => n as u64,
-        Refusal::UnreadableValue { record } => record as u64,
-        Refusal::InvalidValue { record } => record as u64,
-        Refusal::AboveLimit { record } => record as u64,
-        Refusal::BadForm { n } => n as u64,
-        Refusal::RowSizeMismatch => 0,
-        Refusal::Mismatch => 0,
-        Refusal::NoColumn => 0,
-        Refusal::NoSuchRow { row } => row as u64,
-        Refusal::ArrayOutsideHeap { column } => column as u64,
-        Refusal::ShortList { cells } => cells,
-    }
 }
 
 // Whether a layout, which anybody can make, keeps every limit and sum.

@@ -2,12 +2,12 @@
 //
 // A case is a header, the length of a data area of zeros, how many bytes of the header are lent in a second round of
 // name calls, and names to find. Numbers have four bytes, high byte first, the count of names and their lengths one.
-use keyword::Found;
+use ascii::Found;
 use layout::BinTable;
-use layout::Check;
 use layout::Column;
 use layout::Name;
 use libc::STDOUT_FILENO;
+use refusal::Check;
 use tform::TFormType;
 ghost use Prim.Native.Nat.{_≤_, _<_};
 ghost use lib.ListN.{length};
@@ -61,8 +61,8 @@ fn print_check(check: Check) {
     match check {
         Check::Passed => put(b"accepted\n"),
         Check::Refused(refusal) => {
-            put_number(b"refused ", layout::number(refusal));
-            put_number(b" ", layout::place(refusal));
+            put_number(b"refused ", refusal::number(refusal));
+            put_number(b" ", refusal::place(refusal));
             put(b"\n");
         }
     }

@@ -6,13 +6,13 @@ use mathlib.Core.List.{List, [], _∷_}
 use native.Mathlib.Omega.{arith}
 use lib.Dec.{eqb, ltb}
 use lib.ListN.{length, length-append, length-take, length-drop}
-use Rattle.card.specs.Text.{bytes}
-use Rattle.card.proofs.Cases.{by-test}
+use Rattle.ascii.specs.Text.{bytes}
+use Rattle.ascii.proofs.Cases.{by-test}
 use Rattle.layout.specs.declared.Name.{Name}
 use Rattle.layout.specs.declared.Name.the-variants.{Missing, Stretch}
 use Rattle.layout.specs.declared.BinTable.{BinTable}
 use Rattle.layout.specs.Names.{inHeader, stretchOf, partOf, columnName}
-use Rattle.layout.specs.Refusal.{numberOf, placeOf}
+use Rattle.refusal.specs.Refusal.{numberOf, placeOf}
 use Rattle.cell.specs.declared.Logical.{Logical}
 use Rattle.cell.specs.declared.Logical.the-variants.{Yes, No, Unset, Odd}
 use Rattle.cell.specs.declared.DataValue.{DataValue}
@@ -21,9 +21,11 @@ use Rattle.cell.specs.declared.Cell.{Cell}
 use Rattle.walk.specs.Plain.{columnOf}
 use Rattle.listing.specs.declared.Line.{Line}
 use Rattle.listing.specs.declared.Line.the-variants as L
-use Rattle.listing.specs.Text.{decimalText, hexText, twoTexts, logicalText, valueText}
+use Rattle.ascii.specs.Number.{decimalText}
+use Rattle.listing.specs.Text.{hexText, twoTexts, logicalText, valueText}
 use Rattle.listing.specs.Lines.{line, tableLine, shownName, columnLine, cellLine, endLine, refusedLine, rowLine, seekLine, atEndLine, atLine, badLine, lineText}
-use Rattle.listing.proofs.Lengths.{decimal-length, signed-length, hex-length}
+use Rattle.ascii.proofs.Lengths.{decimal-length}
+use Rattle.listing.proofs.Lengths.{signed-length, hex-length}
 
 -- ---- values
 

@@ -13,7 +13,8 @@ use lib.Signed.{leZ, ltZ, nonNeg}
 use mir.Syntax.{Width}
 use mir.Val.{Fits, SFits, toZ, ofZ}
 use mir.ValLaws.{toZ-ofZ, pow-bits}
-use Rattle.listing.specs.Text.{decimalText, signedText}
+use Rattle.ascii.specs.Number.{decimalText}
+use Rattle.listing.specs.Text.{signedText}
 
 -- the machine writes a signed number as bits and reads it back
 abbrev back : Width → ℤ → ℤ

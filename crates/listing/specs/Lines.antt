@@ -5,17 +5,18 @@ use mathlib.Core.Bool.{cond}
 use mathlib.Core.List.{List, [], _∷_, _++_}
 use lib.ListN.{length}
 use lib.Dec.{eqb}
-use Rattle.card.specs.Text.{bytes}
+use Rattle.ascii.specs.Text.{bytes}
 use Rattle.tform.specs.Width.{formLetter}
 use Rattle.layout.specs.declared.BinTable.{BinTable}
 use Rattle.layout.specs.Names.{columnName}
-use Rattle.layout.specs.Refusal.{numberOf, placeOf}
+use Rattle.refusal.specs.Refusal.{numberOf, placeOf}
 use Rattle.cell.specs.declared.Cell.{Cell}
 use Rattle.walk.specs.declared.TableData.{TableData}
 use Rattle.walk.specs.Plain.{columnOf}
 use Rattle.listing.specs.declared.Line.{Line}
 use Rattle.listing.specs.declared.Line.the-variants as L
-use Rattle.listing.specs.Text.{decimalText, valueText}
+use Rattle.ascii.specs.Number.{decimalText}
+use Rattle.listing.specs.Text.{valueText}
 
 -- words with one space (32) between each two, and a line feed (10) after the last
 unfoldable pub line : List (List ℕ) → List ℕ

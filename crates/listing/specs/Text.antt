@@ -1,24 +1,16 @@
--- Numbers and values as text (FORMAT.md, section 16).
+-- Signed numbers, bits and values as text (FORMAT.md, section 16).
 -- Assumes nothing.
 use Prim.Native.Nat.{ℕ, zero, suc, _+_, _/_, _%_}
 use mathlib.Core.Bool.{cond}
 use mathlib.Core.List.{List, [], _∷_, _++_}
 use lib.Dec.{ltb}
 use lib.IntN.{ℤ, pos, negsuc}
-use Rattle.card.specs.Text.{bytes}
+use Rattle.ascii.specs.Text.{bytes}
+use Rattle.ascii.specs.Number.{decimalText}
 use Rattle.cell.specs.declared.Logical.{Logical}
 use Rattle.cell.specs.declared.Logical.the-variants.{Yes, No, Unset, Odd}
 use Rattle.cell.specs.declared.DataValue.{DataValue}
 use Rattle.cell.specs.declared.DataValue.the-variants as D
-
--- the decimal digits of n, the highest first and no zero in front, for a number of k digits at most
-unfoldable pub decimalIn : ℕ → ℕ → List ℕ
-decimalIn zero n = []
-decimalIn (suc k) n = cond (ltb n 10) ((48 + n) ∷ []) (decimalIn k (n / 10) ++ ((48 + n % 10) ∷ []))
-
--- every number below 2^64 has 20 digits at most
-abbrev pub decimalText : ℕ → List ℕ
-decimalText n = decimalIn 20 n
 
 -- a minus sign (45) before a negative number
 abbrev pub signedText : ℤ → List ℕ

@@ -1,30 +1,10 @@
-// Numbers as digits in the lent buffer.
+// Signed numbers and bits as digits in the lent buffer.
 ghost use mathlib.Core.Path.{_≡_};
 ghost use Prim.Native.Nat.{_+_, _≤_, _<_};
 ghost use lib.ListN.{length};
 ghost use lib.IntN.{natAbs};
-ghost use Rattle.listing.specs.Text.{decimalText, signedText, hexText, hexDigit};
-ghost use Rattle.listing.specs.Buffer.{putIn};
-use crate::text;
-
-// The digits are found from the last to the first, so they are set down from the end of an array of the most that there can be.
-pub fn put_decimal(out: &mut [u8], at: usize, n: u64) -> usize
-    requires { ⌜ at + 20 ≤ length (now out) ⌝ }
-    ensures place { λ r. ⌜ r ≡ at + length (decimalText n) ⌝ }
-    ensures buffer { λ _. ⌜ now (out .exit) ≡ putIn (now (out .entry)) at (decimalText n) ⌝ }
-{
-    let mut digits = [0u8; 20];
-    let mut i: usize = 20;
-    let mut rest = n;
-    while 10 <= rest {
-        i -= 1;
-        digits[i] = 48 + (rest % 10) as u8;
-        rest = rest / 10;
-    }
-    i -= 1;
-    digits[i] = 48 + rest as u8;
-    text::put(out, at, &digits[i..])
-}
+ghost use Rattle.listing.specs.Text.{signedText, hexText, hexDigit};
+ghost use Rattle.ascii.specs.Buffer.{putIn};
 
 // A negative number is its magnitude with a minus sign before it.
 pub fn put_signed(out: &mut [u8], at: usize, n: i64) -> usize
@@ -34,9 +14,9 @@ pub fn put_signed(out: &mut [u8], at: usize, n: i64) -> usize
 {
     if n < 0 {
         out[at] = 45;
-        put_decimal(out, at + 1, magnitude(n))
+        ascii::digits::put_decimal(out, at + 1, magnitude(n))
     } else {
-        put_decimal(out, at, magnitude(n))
+        ascii::digits::put_decimal(out, at, magnitude(n))
     }
 }
 
@@ -65,7 +45,7 @@ pub fn put_hex(out: &mut [u8], at: usize, n: u64, width: usize) -> usize
         digits[i] = hex_digit(rest % 16);
         rest = rest / 16;
     }
-    text::put(out, at, &digits[..width])
+    ascii::buffer::put(out, at, &digits[..width])
 }
 
 // 0 to 9, then a to f.

@@ -1,17 +1,16 @@
 // The lines that `cells` and `replay` print, as text in a lent buffer.
 mod digits;
 mod lines;
-mod text;
 mod values;
 mod words;
 
 ghost use mathlib.Core.Path.{_≡_};
-ghost use Rattle.listing.specs.Text.{decimalText};
 ghost use Rattle.listing.specs.Lines.{lineText};
-ghost use Rattle.listing.specs.Buffer.{written, writtenTo};
+ghost use Rattle.ascii.specs.Buffer.{written, writtenTo};
+use ascii::Written;
 use cell::Cell;
 use layout::BinTable;
-use layout::Refusal;
+use refusal::Refusal;
 use walk::TableData;
 
 // A line. What it says of the table and its columns stands in the layout and the header, which are lent when it is written.
@@ -30,12 +29,6 @@ pub enum Line {
     BadLine(usize),
 }
 
-// The place after what was written, or that there was no room for it.
-pub enum Written {
-    To(usize),
-    NoRoom,
-}
-
 // Writes a line and its line feed from a place of the buffer on. The rest of the buffer stays as it was, and where there is no room
 // for all of it, all of the buffer does.
 pub fn put_line(out: &mut [u8], at: usize, header: &[u8], layout: BinTable, line: Line) -> Written
@@ -50,26 +43,8 @@ pub fn put_line(out: &mut [u8], at: usize, header: &[u8], layout: BinTable, line
         Line::Refused(refusal) => lines::refused_line(out, at, refusal),
         Line::Row(cells) => lines::number_line(out, at, b"row", cells),
         Line::Seek(row) => lines::number_line(out, at, b"seek", row as u64),
-        Line::AtEnd => lines::put_text(out, at, b"end\n"),
+        Line::AtEnd => ascii::buffer::put_text(out, at, b"end\n"),
         Line::At(cursor) => lines::at_line(out, at, cursor),
         Line::BadLine(number) => lines::number_line(out, at, b"bad line", number as u64),
     }
-}
-
-// Writes some bytes, as `put_line` does.
-pub fn put_text(out: &mut [u8], at: usize, text: &[u8]) -> Written
-    ensures to { λ r. ⌜ r ≡ writtenTo (now (out .entry)) at (now (text .entry)) ⌝ }
-    ensures buffer { λ _. ⌜ now (out .exit) ≡ written (now (out .entry)) at (now (text .entry)) ⌝ }
-{
-    lines::put_text(out, at, text)
-}
-
-// Writes the decimal digits of a number, as `put_line` does.
-pub fn put_decimal(out: &mut [u8], at: usize, number: u64) -> Written
-    ensures to { λ r. ⌜ r ≡ writtenTo (now (out .entry)) at (decimalText number) ⌝ }
-    ensures buffer { λ _. ⌜ now (out .exit) ≡ written (now (out .entry)) at (decimalText number) ⌝ }
-{
-    let mut text = [0u8; 20];
-    let n = digits::put_decimal(&mut text, 0, number);
-    lines::put_text(out, at, &text[..n])
 }

@@ -3,40 +3,25 @@ ghost use mathlib.Core.Path.{_≡_};
 ghost use mathlib.Core.List.{[], _∷_, _++_};
 ghost use Prim.Native.Nat.{_≤_};
 ghost use lib.ListN.{length};
-ghost use Rattle.card.specs.Text.{bytes};
+ghost use Rattle.ascii.specs.Text.{bytes};
 ghost use Rattle.tform.specs.Width.{formLetter};
-ghost use Rattle.layout.specs.Refusal.{numberOf, placeOf};
+ghost use Rattle.refusal.specs.Refusal.{numberOf, placeOf};
 ghost use Rattle.walk.specs.Plain.{columnOf};
-ghost use Rattle.listing.specs.Buffer.{written, writtenTo};
-ghost use Rattle.listing.specs.Text.{decimalText};
+ghost use Rattle.ascii.specs.Buffer.{written, writtenTo};
+ghost use Rattle.ascii.specs.Number.{decimalText};
 ghost use Rattle.listing.specs.Lines.{line, tableLine, columnLine, cellLine, refusedLine, atLine};
-use crate::Written;
-use crate::text;
 use crate::values;
 use crate::words;
+use ascii::Written;
 use cell::Cell;
 use layout::BinTable;
 use layout::Column;
 use layout::Name;
-use layout::Refusal;
 use layout::TFIELDS_LIMIT;
+use refusal::Refusal;
 use tform::TFormType;
 use tform::VariableArrayTy;
 use walk::TableData;
-
-// Copies a text to the buffer, if there is room for it. The tests have no sum, which could wrap.
-pub fn put_text(out: &mut [u8], at: usize, text: &[u8]) -> Written
-    ensures to { λ r. ⌜ r ≡ writtenTo (now (out .entry)) at (now (text .entry)) ⌝ }
-    ensures buffer { λ _. ⌜ now (out .exit) ≡ written (now (out .entry)) at (now (text .entry)) ⌝ }
-{
-    if out.len() < at {
-        return Written::NoRoom;
-    }
-    if out.len() - at < text.len() {
-        return Written::NoRoom;
-    }
-    Written::To(text::put(out, at, text))
-}
 
 // A line of a word and a number.
 pub fn number_line(out: &mut [u8], at: usize, word: &[u8], number: u64) -> Written
@@ -46,7 +31,7 @@ pub fn number_line(out: &mut [u8], at: usize, word: &[u8], number: u64) -> Writt
 {
     let mut text = [0u8; 128];
     let n = words::put_count(&mut text, 0, word, number, 10);
-    put_text(out, at, &text[..n])
+    ascii::buffer::put_text(out, at, &text[..n])
 }
 
 pub fn refused_line(out: &mut [u8], at: usize, refusal: Refusal) -> Written
@@ -54,9 +39,9 @@ pub fn refused_line(out: &mut [u8], at: usize, refusal: Refusal) -> Written
     ensures buffer { λ _. ⌜ now (out .exit) ≡ written (now (out .entry)) at (refusedLine (numberOf refusal) (placeOf refusal)) ⌝ }
 {
     let mut text = [0u8; 128];
-    let place = words::put_count(&mut text, 0, b"refused", layout::number(refusal), 32);
-    let n = words::put_number(&mut text, place, layout::place(refusal), 10);
-    put_text(out, at, &text[..n])
+    let place = words::put_count(&mut text, 0, b"refused", refusal::number(refusal), 32);
+    let n = words::put_number(&mut text, place, refusal::place(refusal), 10);
+    ascii::buffer::put_text(out, at, &text[..n])
 }
 
 pub fn at_line(out: &mut [u8], at: usize, cursor: TableData) -> Written
@@ -67,7 +52,7 @@ pub fn at_line(out: &mut [u8], at: usize, cursor: TableData) -> Written
     let passed = words::put_count(&mut text, 0, b"at", cursor.row, 32);
     let count = words::put_number(&mut text, passed, cursor.passed, 32);
     let n = words::put_number(&mut text, count, cursor.count as u64, 10);
-    put_text(out, at, &text[..n])
+    ascii::buffer::put_text(out, at, &text[..n])
 }
 
 pub fn cell_line(out: &mut [u8], at: usize, cell: Cell) -> Written
@@ -81,7 +66,7 @@ pub fn cell_line(out: &mut [u8], at: usize, cell: Cell) -> Written
     let next = words::put_number(&mut text, idx, cell.idx, 32);
     let feed = values::put_value(&mut text, next, value);
     let whole = words::put_byte(&mut text, feed, 10);
-    put_text(out, at, &text[..whole])
+    ascii::buffer::put_text(out, at, &text[..whole])
 }
 
 pub fn table_line(out: &mut [u8], at: usize, layout: BinTable) -> Written
@@ -93,7 +78,7 @@ pub fn table_line(out: &mut [u8], at: usize, layout: BinTable) -> Written
     let rows = words::put_count(&mut text, columns, b"columns", layout.naxis2, 32);
     let bytes = words::put_count(&mut text, rows, b"rows", layout.naxis1, 32);
     let n = words::put_word(&mut text, bytes, b"bytes", 10);
-    put_text(out, at, &text[..n])
+    ascii::buffer::put_text(out, at, &text[..n])
 }
 
 // The start of a line, a name and the line feed. The name is a part of the header, of any length, so it does not go through an array.
@@ -110,7 +95,7 @@ fn put_named(out: &mut [u8], at: usize, start: &[u8], name: &[u8]) -> Written
     if out.len() - at - start.len() <= name.len() {
         return Written::NoRoom;
     }
-    let next = text::put(out, at, start);
+    let next = ascii::buffer::put(out, at, start);
     Written::To(words::put_word(out, next, name, 10))
 }
 

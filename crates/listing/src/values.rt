@@ -2,10 +2,10 @@
 ghost use mathlib.Core.Path.{_≡_};
 ghost use Prim.Native.Nat.{_+_, _≤_};
 ghost use lib.ListN.{length};
-ghost use Rattle.listing.specs.Buffer.{putIn};
-ghost use Rattle.listing.specs.Text.{decimalText, hexText, twoTexts, logicalText, valueText};
+ghost use Rattle.ascii.specs.Buffer.{putIn};
+ghost use Rattle.ascii.specs.Number.{decimalText};
+ghost use Rattle.listing.specs.Text.{hexText, twoTexts, logicalText, valueText};
 use crate::digits;
-use crate::text;
 use crate::words;
 use cell::DataValue;
 use cell::Logical;
@@ -16,12 +16,12 @@ fn put_logical(out: &mut [u8], at: usize, logical: Logical) -> usize
     ensures buffer { λ _. ⌜ now (out .exit) ≡ putIn (now (out .entry)) at (logicalText logical) ⌝ }
 {
     match logical {
-        Logical::Yes => text::put(out, at, b"T"),
-        Logical::No => text::put(out, at, b"F"),
-        Logical::Unset => text::put(out, at, b"U"),
+        Logical::Yes => ascii::buffer::put(out, at, b"T"),
+        Logical::No => ascii::buffer::put(out, at, b"F"),
+        Logical::Unset => ascii::buffer::put(out, at, b"U"),
         Logical::Odd(byte) => {
             let next = words::put_byte(out, at, 63);
-            digits::put_decimal(out, next, byte as u64)
+            ascii::digits::put_decimal(out, next, byte as u64)
         }
     }
 }
@@ -32,7 +32,7 @@ fn put_two_decimals(out: &mut [u8], at: usize, one: u64, two: u64) -> usize
     ensures buffer { λ _. ⌜ now (out .exit) ≡ putIn (now (out .entry)) at (twoTexts (decimalText one) (decimalText two)) ⌝ }
 {
     let next = words::put_number(out, at, one, 32);
-    digits::put_decimal(out, next, two)
+    ascii::digits::put_decimal(out, next, two)
 }
 
 fn put_two_hex(out: &mut [u8], at: usize, one: u64, two: u64, width: usize) -> usize
@@ -52,12 +52,12 @@ pub fn put_value(out: &mut [u8], at: usize, value: DataValue) -> usize
 {
     match value {
         DataValue::Logical(logical) => put_logical(out, at, logical),
-        DataValue::Bit(byte) => digits::put_decimal(out, at, byte as u64),
-        DataValue::UnsignedByte(byte) => digits::put_decimal(out, at, byte as u64),
+        DataValue::Bit(byte) => ascii::digits::put_decimal(out, at, byte as u64),
+        DataValue::UnsignedByte(byte) => ascii::digits::put_decimal(out, at, byte as u64),
         DataValue::Short(number) => digits::put_signed(out, at, number as i64),
         DataValue::Integer(number) => digits::put_signed(out, at, number as i64),
         DataValue::Long(number) => digits::put_signed(out, at, number),
-        DataValue::Character(byte) => digits::put_decimal(out, at, byte as u64),
+        DataValue::Character(byte) => ascii::digits::put_decimal(out, at, byte as u64),
         DataValue::Float { value: _, bits } => digits::put_hex(out, at, bits as u64, 8),
         DataValue::Double { value: _, bits } => digits::put_hex(out, at, bits, 16),
         DataValue::ComplexFloat {

@@ -3,10 +3,8 @@ ghost use mathlib.Core.Path.{_≡_};
 ghost use mathlib.Core.List.{[], _∷_, _++_};
 ghost use Prim.Native.Nat.{_+_, _≤_, _<_};
 ghost use lib.ListN.{length};
-ghost use Rattle.listing.specs.Buffer.{putIn};
-ghost use Rattle.listing.specs.Text.{decimalText};
-use crate::digits;
-use crate::text;
+ghost use Rattle.ascii.specs.Buffer.{putIn};
+ghost use Rattle.ascii.specs.Number.{decimalText};
 
 pub fn put_byte(out: &mut [u8], at: usize, byte: u8) -> usize
     requires { ⌜ at < length (now out) ⌝ }
@@ -14,7 +12,7 @@ pub fn put_byte(out: &mut [u8], at: usize, byte: u8) -> usize
     ensures buffer { λ _. ⌜ now (out .exit) ≡ putIn (now (out .entry)) at (byte ∷ []) ⌝ }
 {
     let one = [byte];
-    text::put(out, at, &one)
+    ascii::buffer::put(out, at, &one)
 }
 
 pub fn put_word(out: &mut [u8], at: usize, word: &[u8], end: u8) -> usize
@@ -22,7 +20,7 @@ pub fn put_word(out: &mut [u8], at: usize, word: &[u8], end: u8) -> usize
     ensures place { λ r. ⌜ r ≡ at + length (now (word .entry) ++ (end ∷ [])) ⌝ }
     ensures buffer { λ _. ⌜ now (out .exit) ≡ putIn (now (out .entry)) at (now (word .entry) ++ (end ∷ [])) ⌝ }
 {
-    let next = text::put(out, at, word);
+    let next = ascii::buffer::put(out, at, word);
     put_byte(out, next, end)
 }
 
@@ -31,7 +29,7 @@ pub fn put_number(out: &mut [u8], at: usize, number: u64, end: u8) -> usize
     ensures place { λ r. ⌜ r ≡ at + length (decimalText number ++ (end ∷ [])) ⌝ }
     ensures buffer { λ _. ⌜ now (out .exit) ≡ putIn (now (out .entry)) at (decimalText number ++ (end ∷ [])) ⌝ }
 {
-    let next = digits::put_decimal(out, at, number);
+    let next = ascii::digits::put_decimal(out, at, number);
     put_byte(out, next, end)
 }
 

@@ -1,17 +1,17 @@
 -- The lines of `cells` by cell reads: what the answer of one says of the lines that were left.
 -- Assumes nothing.
 use Prim.Native.Nat.{ℕ, suc, _+_, _-_, _≤_, _<_}
-use mathlib.Core.Path.{_≡_, refl, sym, ap, _∙_, subst}
-use mathlib.Core.Bool.{Bool, true, false, cond}
+use mathlib.Core.Path.{_≡_, ap, _∙_}
+use mathlib.Core.Bool.{true}
 use mathlib.Core.List.{List, [], _∷_}
 use native.Mathlib.Numerals.{add-one}
 use native.Mathlib.Omega.{arith}
-use Rattle.card.proofs.Cases.{either}
-use Rattle.header.specs.Checks as H
+use Rattle.ascii.proofs.Cases.{either}
+use Rattle.refusal.specs.Refusal as H
 use Rattle.layout.specs.declared.BinTable.{BinTable}
-use Rattle.layout.specs.declared.Check.{Check}
-use Rattle.layout.specs.declared.Check.the-variants.{Passed, Refused}
-use Rattle.layout.specs.Refusal.{numberOf, placeOf, outcomeOf}
+use Rattle.refusal.specs.declared.Check.{Check}
+use Rattle.refusal.specs.declared.Check.the-variants.{Passed, Refused}
+use Rattle.refusal.specs.Refusal.{numberOf, placeOf, outcomeOf}
 use Rattle.walk.specs.declared.TableData.{TableData}
 use Rattle.walk.specs.declared.Entry.{Entry}
 use Rattle.walk.specs.declared.Answer.{Answer}
@@ -19,7 +19,7 @@ use Rattle.walk.specs.declared.Answer.the-variants as A
 use Rattle.walk.specs.declared.Opened.{Opened}
 use Rattle.walk.specs.declared.Stepped.{Stepped}
 use Rattle.walk.specs.Plain.{rowEntries}
-use Rattle.walk.specs.Walk.{readCell, start, Reply, refused, entriesFrom}
+use Rattle.walk.specs.Walk.{readCell, start, refused}
 use Rattle.walk.specs.Step.{fits, choiceOk, belongs, allColumns, choiceOf, Opening, openWith, opened, cursorAt, cursorLeft, Result, cursorStep, replyOf, resultOf, openingOf}
 use Rattle.walk.proofs.Follows.{ok-start}
 use Rattle.walk.proofs.InOrder.{left-start, ReadLeft, read-left}

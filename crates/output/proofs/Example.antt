@@ -2,12 +2,10 @@
 -- Assumes nothing.
 use Prim.Native.Nat.{ℕ}
 use Prim.Native.String.{String}
-use mathlib.Core.Path.{_≡_, refl, ap, _∙_}
-use mathlib.Core.Bool.{true}
+use mathlib.Core.Path.{_≡_, refl, ap}
 use mathlib.Core.List.{List, [], _∷_, _++_}
-use lib.ListN.{replicate}
 use lib.Seq.{take-at, drop-at}
-use Rattle.card.specs.Text.{bytes, same, spaces}
+use Rattle.ascii.specs.Text.{bytes, same, spaces}
 use Rattle.card.specs.Record.{cardAt, isEnd}
 use Rattle.keyword.specs.Names.{range}
 use Rattle.header.specs.Records.{records, hasEnd, beforeEnd, headerLen}
@@ -18,12 +16,12 @@ use Rattle.cell.specs.Item.{word, item}
 use Rattle.cell.specs.Field.{field}
 use Rattle.walk.specs.Plain.{fieldOf, cells, entriesOf, chosen, columnEntries, columnsEntries, rowEntries}
 use Rattle.walk.specs.Walk.{entriesFrom}
-use Rattle.walk.specs.Step.{allColumns, choiceFrom, Opening, openWith}
+use Rattle.walk.specs.Step.{choiceFrom, Opening}
 use Rattle.walk.proofs.Examples.{area}
 use Rattle.walk.proofs.Together.{padded, header, one-block, table, enters, opens}
-use Rattle.listing.specs.Text.{decimalIn}
+use Rattle.ascii.specs.Number.{decimalIn}
 use Rattle.listing.specs.Lines.{line, tableLine, columnLine, cellLine, endLine}
-use Rattle.output.specs.Cells.{headerOf, dataOf, entryLines, columnLines, openedLines, entryOutput, cellsLines}
+use Rattle.output.specs.Cells.{headerOf, dataOf, entryLines, columnLines, entryOutput, cellsLines}
 
 -- the bytes of the file
 abbrev pub file : List ℕ

@@ -1,19 +1,17 @@
 -- A page filled line by line.
 -- Assumes nothing.
 use Prim.Native.Nat.{ℕ, _+_, _-_, _≤_, _<_}
-use mathlib.Core.Path.{_≡_, refl, sym, ap, _∙_}
-use mathlib.Core.Bool.{true, false, cond}
+use mathlib.Core.Path.{_≡_, refl, sym, _∙_}
 use mathlib.Core.List.{List, [], _∷_, _++_, append-assoc, append-nil}
 use native.Mathlib.Omega.{arith}
 use lib.Dec.{leb}
-use lib.ListN.{length, take, drop, take-append-drop, length-append}
+use lib.ListN.{length, take, drop, take-append-drop}
 use lib.Seq.{length-take-le, drop-drop}
 use borrow.Author.Tests.{le-leb, lt-leb, leb-true, leb-false}
-use Rattle.card.proofs.Cases.{either}
-use Rattle.listing.specs.declared.Written.{Written}
-use Rattle.listing.specs.declared.Written.the-variants.{To, NoRoom}
-use Rattle.listing.specs.Buffer.{putIn, written, writtenTo}
-use Rattle.listing.proofs.Lengths.{put-length, take-put, drop-put}
+use Rattle.ascii.proofs.Cases.{either}
+use Rattle.ascii.specs.declared.Written.the-variants.{To, NoRoom}
+use Rattle.ascii.specs.Buffer.{putIn, written, writtenTo}
+use Rattle.ascii.proofs.Lengths.{put-length, take-put, drop-put}
 use Rattle.output.specs.Page.{pageText, pageRest}
 
 -- ---- a line that was written, and one that there was no room for

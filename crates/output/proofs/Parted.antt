@@ -6,13 +6,13 @@ use mathlib.Core.List.{List, []}
 use native.Mathlib.Omega.{arith}
 use lib.ListN.{length, take, drop, length-take}
 use lib.Seq.{length-take-le}
-use Rattle.card.proofs.Cases.{by-test}
-use Rattle.card.proofs.Parts.{part-from}
+use Rattle.ascii.proofs.Cases.{by-test}
+use Rattle.ascii.proofs.Parts.{part-from}
 use Rattle.header.specs.Records.{records, hasEnd, headerLen}
 use Rattle.layout.specs.declared.BinTable.{BinTable}
-use Rattle.layout.specs.declared.Check.{Check}
-use Rattle.layout.specs.declared.Check.the-variants.{Passed, Refused}
-use Rattle.layout.specs.Refusal.{outcomeOf}
+use Rattle.refusal.specs.declared.Check.{Check}
+use Rattle.refusal.specs.declared.Check.the-variants.{Passed, Refused}
+use Rattle.refusal.specs.Refusal.{outcomeOf}
 use Rattle.bintable.specs.Entry.{allChecks, entry, layoutIn}
 use Rattle.output.specs.declared.State.{State}
 use Rattle.output.specs.declared.State.the-variants as S

@@ -1,13 +1,13 @@
 -- Pages and the whole text: no line is lost, cut or written twice, and every page that is not empty leaves fewer lines.
 -- Assumes nothing.
-use Prim.Native.Nat.{ℕ, zero, suc, _+_, _-_, _≤_, _<_, min}
+use Prim.Native.Nat.{ℕ, suc, _+_, _-_, _≤_, _<_, min}
 use mathlib.Core.Path.{_≡_, refl, ap, _∙_}
 use mathlib.Core.List.{List, [], _∷_, _++_, append-assoc}
 use native.Mathlib.Omega.{arith}
 use lib.Dec.{leb, ltb}
 use lib.ListN.{length, length-append}
 use borrow.Author.Tests.{leb-true, ltb-true, ltb-false}
-use Rattle.card.proofs.Cases.{by-test, either}
+use Rattle.ascii.proofs.Cases.{by-test, either}
 use Rattle.output.specs.Page.{linesText, pageText, pageRest}
 
 -- a page and what is left after it are the whole

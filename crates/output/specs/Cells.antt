@@ -5,7 +5,7 @@ use mathlib.Core.Bool.{true}
 use mathlib.Core.List.{List, [], _∷_, _++_}
 use lib.ListN.{take, drop}
 use Rattle.header.specs.Records.{headerLen}
-use Rattle.header.specs.Checks as H
+use Rattle.refusal.specs.Refusal as H
 use Rattle.layout.specs.declared.BinTable.{BinTable}
 use Rattle.bintable.specs.Entry as B
 use Rattle.walk.specs.declared.Entry.{Entry}

@@ -3,3 +3,4 @@ pub mod Replay
 pub mod State
 pub mod Next
 pub mod Page
+pub mod Settings

@@ -17,18 +17,10 @@ answerNext A.Sought row at d = N.Line (L.Seek row) (S.At at d)
 answerNext A.End row at d = N.Line L.AtEnd (S.At at d)
 answerNext (A.Refused q) row at d = N.Line (L.Refused q) (S.At at d)
 
--- an answer of a row read by cursor c: after the count come the cells, which cell reads from c on hand out
-abbrev pub rowNext : Answer → ℕ → TableData → TableData → Next
-rowNext (A.Row k) at c d = N.Line (L.Row k) (S.Listed at c k d)
-rowNext (A.Cell x) at c d = answerNext (A.Cell x) 0 at d
-rowNext A.Sought at c d = answerNext A.Sought 0 at d
-rowNext A.End at c d = answerNext A.End 0 at d
-rowNext (A.Refused q) at c d = answerNext (A.Refused q) 0 at d
-
--- the next of n + 1 cells by the answer of a cell read, e the cursor after it; d is the cursor after the row read
-abbrev pub listedNext : Answer → ℕ → ℕ → TableData → TableData → Next
-listedNext (A.Cell x) at n e d = N.Line (L.Cell x) (S.Listed at e n d)
-listedNext (A.Row k) at n e d = N.Line (L.At d) (S.Step at d)
-listedNext A.Sought at n e d = N.Line (L.At d) (S.Step at d)
-listedNext A.End at n e d = N.Line (L.At d) (S.Step at d)
-listedNext (A.Refused q) at n e d = N.Line (L.At d) (S.Step at d)
+-- an answer of a row read by cursor c into a list of n cells: after the count come the cells of the list
+abbrev pub rowNext : Answer → ℕ → TableData → ℕ → TableData → Next
+rowNext (A.Row k) at c n d = N.Line (L.Row k) (S.Listed at c n 0)
+rowNext (A.Cell x) at c n d = answerNext (A.Cell x) 0 at d
+rowNext A.Sought at c n d = answerNext A.Sought 0 at d
+rowNext A.End at c n d = answerNext A.End 0 at d
+rowNext (A.Refused q) at c n d = answerNext (A.Refused q) 0 at d

@@ -7,6 +7,10 @@ use mathlib.Core.List.{List, [], _∷_, _++_}
 use lib.ListN.{length}
 use lib.Dec.{leb}
 
+-- the length of a page's buffer: every line of a file of 65,536 bytes has room in it
+abbrev pub pageRoom : ℕ
+pageRoom = 131072
+
 -- lines one after the other
 unfoldable pub linesText : List (List ℕ) → List ℕ
 linesText [] = []

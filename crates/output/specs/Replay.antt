@@ -4,13 +4,12 @@ use Prim.Native.Nat.{ℕ, suc}
 use mathlib.Core.Bool.{Bool, true, false, cond}
 use mathlib.Core.List.{List, [], _∷_, _++_, map}
 use lib.ListN.{take, replicate}
-use Rattle.header.specs.Checks as H
+use Rattle.refusal.specs.Refusal as H
 use Rattle.layout.specs.declared.BinTable.{BinTable}
 use Rattle.bintable.specs.Entry as B
-use Rattle.cell.specs.declared.DataValue.the-variants as D
 use Rattle.cell.specs.declared.Cell.{Cell}
+use Rattle.cell.specs.Item.{blankCell}
 use Rattle.walk.specs.declared.TableData.{TableData}
-use Rattle.walk.specs.Plain.{cellOf}
 use Rattle.walk.specs.Walk.{Step, readCell, readRow, seek, Reply, gotCell, gotRow, sought, atEnd, refused}
 use Rattle.walk.specs.Step.{Selection, allColumns, listed, Opening, openWith, Result, cursorStep}
 use Rattle.listing.specs.Lines.{cellLine, refusedLine, rowLine, seekLine, atEndLine, atLine, badLine}
@@ -21,11 +20,7 @@ use Rattle.output.specs.Cells.{headerOf, dataOf}
 
 -- ---- a step
 
--- what a list is filled with before it is lent
-abbrev pub blank : Cell
-blank = cellOf 0 0 0 (D.Bit 0)
-
--- the step that a line says: a row read has a list of so many cells
+-- the step that a line says: a row read has a list of so many cells of zeros
 pub data Asked : Type 0 where
   step : Step → Asked
   none : Asked
@@ -35,7 +30,7 @@ asked chooseAll = none
 asked (choose is) = none
 asked (heap on) = none
 asked cell = step readCell
-asked (row n) = step (readRow (replicate n blank))
+asked (row n) = step (readRow (replicate n blankCell))
 asked (S.seek r) = step (seek r)
 asked bad = none
 

@@ -1,16 +1,17 @@
 -- What is left to print in each state of the two programs.
 -- Assumes nothing.
-use Prim.Native.Nat.{ℕ, zero, suc, _+_, _-_}
+use Prim.Native.Nat.{ℕ, _+_, _-_}
 use mathlib.Core.Bool.{cond}
-use mathlib.Core.List.{List, [], _∷_, _++_}
+use mathlib.Core.List.{List, [], _∷_, _++_, map}
 use lib.ListN.{take, drop}
 use Rattle.layout.specs.declared.BinTable.{BinTable}
-use Rattle.layout.specs.Refusal.{numberOf, placeOf}
+use Rattle.refusal.specs.Refusal.{numberOf, placeOf}
 use Rattle.bintable.specs.Entry as B
+use Rattle.cell.specs.Item.{blankCell}
 use Rattle.walk.specs.declared.TableData.{TableData}
-use Rattle.walk.specs.declared.Entry.{Entry}
-use Rattle.walk.specs.declared.Entry.the-variants as E
-use Rattle.walk.specs.Step.{belongs, cursorLeft}
+use Rattle.walk.specs.Walk.{Reply, gotCell, gotRow, sought, atEnd, refused}
+use Rattle.walk.specs.Step.{belongs, cursorLeft, Result}
+use Rattle.row.specs.Owned.{ownRead}
 use Rattle.listing.specs.Lines.{cellLine, refusedLine, atLine, lineText}
 use Rattle.steps.specs.Split.{linesOf, lineFeeds}
 use Rattle.output.specs.declared.State.{State}
@@ -24,16 +25,18 @@ use Rattle.output.specs.Replay.{stepLines}
 abbrev pub stepsFrom : BinTable → List ℕ → List ℕ → ℕ → TableData → List (List ℕ)
 stepsFrom l a s at = stepLines l a (lineFeeds (take at s) + 1) (linesOf (drop at s))
 
--- the first n of some entries as cell lines, up to an array outside the heap
-unfoldable pub firstCells : ℕ → List Entry → List (List ℕ)
-firstCells zero es = []
-firstCells (suc n) [] = []
-firstCells (suc n) (E.Cell x ∷ es) = cellLine x ∷ firstCells n es
-firstCells (suc n) (E.OutsideHeap k ∷ es) = []
+-- how many cells a row read stored, by its answer
+abbrev pub storedBy : Reply → ℕ
+storedBy (gotCell c) = 0
+storedBy (gotRow k) = k
+storedBy sought = 0
+storedBy atEnd = 0
+storedBy (refused n p) = 0
 
--- those from a cursor on; none where it does not belong
-abbrev pub cellsFrom : BinTable → List ℕ → ℕ → TableData → List (List ℕ)
-cellsFrom l a n c = cond (belongs l a c) (firstCells n (cursorLeft l a c)) []
+-- those from cell k on, as lines, and what comes after them
+abbrev pub listedFrom : ℕ → Result → (TableData → List (List ℕ)) → List (List ℕ)
+listedFrom k o later =
+    map cellLine (drop k (take (storedBy (o .reply)) (o .list))) ++ (atLine (o .cursor) ∷ later (o .cursor))
 
 -- a header, a layout, a data area and a file of steps
 module _ (h : List ℕ) (l : BinTable) (a s : List ℕ) where
@@ -43,7 +46,7 @@ module _ (h : List ℕ) (l : BinTable) (a s : List ℕ) where
   left (S.Cells c) = cond (belongs l a c) (entryLines (c .count) (cursorLeft l a c)) (refusedLine 10 0 ∷ [])
   left (S.Step at c) = stepsFrom l a s at c
   left (S.At at c) = atLine c ∷ stepsFrom l a s at c
-  left (S.Listed at c n d) = cellsFrom l a n c ++ (atLine d ∷ stepsFrom l a s at d)
+  left (S.Listed at c n k) = listedFrom k (ownRead l a c blankCell n) (stepsFrom l a s at)
   left (S.Refused r) = refusedLine (numberOf r) (placeOf r) ∷ []
   left S.Done = []
 

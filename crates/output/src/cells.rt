@@ -4,8 +4,8 @@ ghost use Rattle.output.specs.State.{left, nextLines};
 use crate::Next;
 use crate::State;
 use layout::BinTable;
-use layout::Check;
 use listing::Line;
+use refusal::Check;
 use walk::Answer;
 use walk::TableData;
 

@@ -2,26 +2,31 @@
 mod cells;
 mod pages;
 mod replay;
+mod settings;
 
 ghost use mathlib.Core.Path.{_≡_};
 ghost use Prim.Native.Nat.{_+_};
 ghost use mathlib.Core.List.{[]};
 ghost use lib.ListN.{length, take};
-ghost use Rattle.layout.specs.Refusal.{outcomeOf};
+ghost use Rattle.refusal.specs.Refusal.{outcomeOf};
 ghost use Rattle.bintable.specs.Entry.{allChecks, entry, layoutIn};
-ghost use Rattle.listing.specs.Buffer.{putIn};
+ghost use Rattle.ascii.specs.Buffer.{putIn};
 ghost use Rattle.output.specs.Cells.{fileLimit, headerOf, dataOf, cellsLines};
+ghost use Rattle.output.specs.Replay.{replayLines};
 ghost use Rattle.output.specs.State.{left, nextLines, fileLeft};
 ghost use Rattle.output.specs.Page.{pageText, pageRest, Whole};
 use bintable::Parsed;
 use layout::BinTable;
-use layout::Check;
-use layout::Refusal;
 use listing::Line;
+use refusal::Check;
+use refusal::Refusal;
 use walk::TableData;
 
 // How many bytes of a file are looked at.
 pub const FILE_LIMIT: usize = 65536;
+
+// The length of a page's buffer: it has room for every line of a file of `FILE_LIMIT` bytes.
+pub const PAGE_ROOM: usize = 131072;
 
 // What is to be printed next.
 pub enum State {
@@ -29,8 +34,8 @@ pub enum State {
     Table,
     Column(usize),
     Cells(TableData),
-    // `replay`: the line of the steps at this place, the cursor's place and count, a cell of a row read: so many are
-    // left, which cell reads from `reader` on hand out again.
+    // `replay`: the line of the steps at this place, the cursor's place and count, cell k of the list that the row read
+    // by `reader` stores to.
     Step {
         at: usize,
         cursor: TableData,
@@ -42,8 +47,8 @@ pub enum State {
     Listed {
         at: usize,
         reader: TableData,
-        cells: u64,
-        cursor: TableData,
+        len: usize,
+        k: usize,
     },
     // A refusal, and nothing after it.
     Refused(Refusal),
@@ -84,12 +89,9 @@ fn next_line(header: &[u8], layout: BinTable, area: &[u8], steps: &[u8], state: 
             line: Line::At(cursor),
             state: State::Step { at, cursor },
         },
-        State::Listed {
-            at,
-            reader,
-            cells,
-            cursor,
-        } => replay::next_listed(header, layout, area, steps, at, reader, cells, cursor),
+        State::Listed { at, reader, len, k } => {
+            replay::next_listed(header, layout, area, steps, at, reader, len, k)
+        }
         State::Refused(refusal) => Next::Line {
             line: Line::Refused(refusal),
             state: State::Done,
@@ -147,4 +149,33 @@ pub fn cells_start(file: &[u8]) -> Start
             state: State::Table,
         },
     }
+}
+
+// The layout of a file's table, and the state in which `replay` starts.
+pub fn replay_start(file: &[u8], steps: &[u8]) -> Start
+    ensures layout { λ r. ⌜ r .layout ≡ layoutIn (entry (headerOf (now (file .entry))) (dataOf (now (file .entry)))) ⌝ }
+    ensures lines { λ r. ⌜ fileLeft (now (file .entry)) (r .layout) (take fileLimit (now (steps .entry))) (r .state) ≡ replayLines (now (file .entry)) (take fileLimit (now (steps .entry))) ⌝ }
+{
+    let parsed = parse_file(file);
+    let check = parsed.check;
+    let layout = parsed.layout;
+    if let Check::Refused(refusal) = check {
+        let state = State::Refused(refusal);
+        return Start { layout, state };
+    }
+    let len = header::header_len(file);
+    let state = settings::first_step(layout, &file[len..], first_bytes(steps));
+    Start { layout, state }
+}
+
+// The first page of the lines that `replay` prints: as many whole lines as the buffer has room for, the rest of it as it was.
+pub fn replay_text(file: &[u8], steps: &[u8], out: &mut [u8]) -> usize
+    ensures len { λ r. ⌜ r ≡ length (pageText (length (now (out .entry))) (replayLines (now (file .entry)) (take fileLimit (now (steps .entry))))) ⌝ }
+    ensures buffer { λ _. ⌜ now (out .exit) ≡ putIn (now (out .entry)) 0 (pageText (length (now (out .entry))) (replayLines (now (file .entry)) (take fileLimit (now (steps .entry))))) ⌝ }
+{
+    let start = replay_start(file, steps);
+    let layout = start.layout;
+    let state = start.state;
+    let page = next_page(file, layout, first_bytes(steps), state, out);
+    page.len
 }

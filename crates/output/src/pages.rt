@@ -2,14 +2,14 @@
 ghost use mathlib.Core.Path.{_≡_};
 ghost use Prim.Native.Nat.{_+_};
 ghost use lib.ListN.{length};
-ghost use Rattle.listing.specs.Buffer.{putIn};
+ghost use Rattle.ascii.specs.Buffer.{putIn};
 ghost use Rattle.output.specs.State.{left};
 ghost use Rattle.output.specs.Page.{pageText, pageRest, Whole};
 use crate::Next;
 use crate::Page;
 use crate::State;
+use ascii::Written;
 use layout::BinTable;
-use listing::Written;
 
 pub fn fill_page(
     header: &[u8],

@@ -2,31 +2,17 @@
 ghost use mathlib.Core.Path.{_≡_};
 ghost use Prim.Native.Nat.{_+_, _≤_};
 ghost use lib.ListN.{length, take};
+ghost use Rattle.walk.specs.Step.{replyOf};
 ghost use Rattle.steps.specs.Split.{lineFeeds};
-ghost use Rattle.output.specs.Replay.{blank};
-ghost use Rattle.output.specs.State.{left, nextLines};
-ghost use Rattle.output.specs.Next.{answerNext, rowNext, listedNext};
+ghost use Rattle.output.specs.State.{storedBy, left, nextLines};
+ghost use Rattle.output.specs.Next.{answerNext, rowNext};
 use crate::Next;
 use crate::State;
-use cell::Cell;
-use cell::DataValue;
 use layout::BinTable;
 use listing::Line;
 use steps::Command;
 use walk::Answer;
 use walk::TableData;
-
-// What a list is filled with before it is lent.
-fn blank_cell() -> Cell
-    ensures { λ r. ⌜ r ≡ blank ⌝ }
-{
-    Cell {
-        row: 0,
-        column: 0,
-        idx: 0,
-        value: DataValue::Bit(0),
-    }
-}
 
 // The line of an answer, and that the cursor's place and count come after it.
 fn answered(answer: Answer, row: usize, at: usize, cursor: TableData) -> Next
@@ -57,9 +43,9 @@ fn answered(answer: Answer, row: usize, at: usize, cursor: TableData) -> Next
     }
 }
 
-// The line of a row read's answer: its cells come after it, by cell reads from the cursor before.
-fn row_answered(answer: Answer, at: usize, reader: TableData, cursor: TableData) -> Next
-    ensures { λ r. ⌜ r ≡ rowNext answer at reader cursor ⌝ }
+// The line of a row read's answer: the cells of its list come after it.
+fn row_answered(answer: Answer, at: usize, reader: TableData, len: usize, cursor: TableData) -> Next
+    ensures { λ r. ⌜ r ≡ rowNext answer at reader len cursor ⌝ }
 {
     match answer {
         Answer::Row(cells) => Next::Line {
@@ -67,8 +53,8 @@ fn row_answered(answer: Answer, at: usize, reader: TableData, cursor: TableData)
             state: State::Listed {
                 at,
                 reader,
-                cells,
-                cursor,
+                len,
+                k: 0,
             },
         },
         Answer::Cell(_) => answered(answer, 0, at, cursor),
@@ -114,11 +100,11 @@ pub fn next_step(
             answered(answer, 0, after, moved)
         }
         Command::Row(n) => {
-            let read = row::owners::row_cell(layout, area, cursor, blank_cell(), n, 0);
+            let read = row::owners::row_cell(layout, area, cursor, cell::blank_cell(), n, 0);
             let stepped = read.stepped;
             let answer = stepped.answer;
             let moved = stepped.cursor;
-            row_answered(answer, after, cursor, moved)
+            row_answered(answer, after, cursor, n, moved)
         }
         Command::Seek(row) => {
             let stepped = table::seek_to_row(layout, area, cursor, row);
@@ -133,30 +119,21 @@ pub fn next_step(
     }
 }
 
-// The cell line of a cell read's answer, or, where that is no cell, the cursor after the row read.
-fn listed(answer: Answer, at: usize, reader: TableData, cells: u64, cursor: TableData) -> Next
-    ensures { λ r. ⌜ r ≡ listedNext answer at cells reader cursor ⌝ }
+// How many cells a row read stored, by its answer.
+fn stored(answer: Answer) -> u64
+    ensures { λ r. ⌜ r ≡ storedBy (replyOf answer) ⌝ }
 {
-    let line = Line::At(cursor);
-    let state = State::Step { at, cursor };
     match answer {
-        Answer::Cell(cell) => Next::Line {
-            line: Line::Cell(cell),
-            state: State::Listed {
-                at,
-                reader,
-                cells,
-                cursor,
-            },
-        },
-        Answer::Row(_) => Next::Line { line, state },
-        Answer::Sought => Next::Line { line, state },
-        Answer::End => Next::Line { line, state },
-        Answer::Refused(_) => Next::Line { line, state },
+        Answer::Row(cells) => cells,
+        Answer::Cell(_) => 0,
+        Answer::Sought => 0,
+        Answer::End => 0,
+        Answer::Refused(_) => 0,
     }
 }
 
-// The next cell of a row read; after the last one the cursor's place and count.
+// The next cell of the list that a row read stored to; after the last one the cursor's place and count. The row is read
+// anew for each cell, since no state can hold the list.
 pub fn next_listed(
     header: &[u8],
     layout: BinTable,
@@ -164,19 +141,29 @@ pub fn next_listed(
     steps: &[u8],
     at: usize,
     reader: TableData,
-    cells: u64,
-    cursor: TableData,
+    len: usize,
+    k: usize,
 ) -> Next
-    ensures { λ r. ⌜ nextLines (now (header .entry)) layout (now (area .entry)) (now (steps .entry)) r ≡ left (now (header .entry)) layout (now (area .entry)) (now (steps .entry)) (State.Listed at reader cells cursor) ⌝ }
+    ensures { λ r. ⌜ nextLines (now (header .entry)) layout (now (area .entry)) (now (steps .entry)) r ≡ left (now (header .entry)) layout (now (area .entry)) (now (steps .entry)) (State.Listed at reader len k) ⌝ }
 {
-    if cells == 0 {
+    let read = row::owners::row_cell(layout, area, reader, cell::blank_cell(), len, k);
+    let stepped = read.stepped;
+    let answer = stepped.answer;
+    let cursor = stepped.cursor;
+    if (k as u64) < stored(answer) {
+        let cell = read.cell;
         return Next::Line {
-            line: Line::At(cursor),
-            state: State::Step { at, cursor },
+            line: Line::Cell(cell),
+            state: State::Listed {
+                at,
+                reader,
+                len,
+                k: k + 1,
+            },
         };
     }
-    let stepped = table::next(layout, area, reader);
-    let answer = stepped.answer;
-    let moved = stepped.cursor;
-    listed(answer, at, moved, cells - 1, cursor)
+    Next::Line {
+        line: Line::At(cursor),
+        state: State::Step { at, cursor },
+    }
 }

@@ -16,6 +16,8 @@ use Rattle.walk.specs.declared.Entry.{Entry}
 use Rattle.walk.specs.Plain.{columnsEntries, rowEntries}
 use Rattle.walk.specs.Walk.{Gathered, allCells, outside, gather}
 use Rattle.walk.proofs.Laws.{from, from-row, from-end, length-from}
+use Rattle.table.specs.Scan.{nextChosen}
+use Rattle.table.proofs.ToNext.{next-from}
 use Rattle.row.specs.declared.plan.RowPlan.{RowPlan}
 use Rattle.row.specs.declared.plan.Rest.{Rest}
 use Rattle.row.specs.declared.plan.Rest.the-variants as L
@@ -43,16 +45,17 @@ module _ (l : BinTable) (a : List ℕ) (p : RowPlan) where
   abbrev pub row : List Entry
   row = rowEntries l a (p .choice) (p .heap) (p .row)
 
-  -- the loop's invariant
+  -- the loop's invariant, but that column k is chosen
   abbrev pub Left : ℕ → ℕ → ℕ → Type 0
-  Left total skip k = (k ≤ l .tfields) × ((total + length (from l a (p .choice) (p .heap) (p .row) k) ≤ length row) × (leftOf (gather (drop (p .passed) row)) ≡ after total (later k skip)))
+  Left total skip k = (total + length (from l a (p .choice) (p .heap) (p .row) k) ≤ length row) × (leftOf (gather (drop (p .passed) row)) ≡ after total (later k skip))
+
+  -- the columns up to the next that is chosen have no entry
+  pub left-next : (total skip k j : ℕ) → j ≡ nextChosen (p .choice) k → Left total skip k → Left total skip j
+  left-next total skip k j e i = rw (← next-from (p .choice) k j e l a (p .heap) (p .row)) i
 
 module _ (l : BinTable) (a : List ℕ) (c : TableData) (s : Stepped) where
   pub left-start : c .row < l .naxis2 → Left l a (planFor l c s) 0 (c .passed) 0
-  left-start h = (
-    omega arith,
-    rw (from-row l a (c .choice) (c .heap) (c .row) h) (omega arith, sym (after-none (later l a (planFor l c s) 0 (c .passed)))),
-  )
+  left-start h = rw (from-row l a (c .choice) (c .heap) (c .row) h) (omega arith, sym (after-none (later l a (planFor l c s) 0 (c .passed))))
 
   later-on : (k skip : ℕ) → k < l .tfields
       → later l a (planFor l c s) k skip ≡ gatherBy a k (fieldOn l a c s k skip) (from l a (c .choice) (c .heap) (c .row) (suc k))
@@ -64,12 +67,12 @@ module _ (l : BinTable) (a : List ℕ) (c : TableData) (s : Stepped) where
   -- an array outside the heap ends it
   pub left-outside : (total skip k : ℕ) → k < l .tfields → Left l a (planFor l c s) total skip k → isOutside (fieldOn l a c s k skip) ≡ true
       → leftOf (gather (drop (c .passed) (row l a (planFor l c s)))) ≡ L.OutsideHeap k
-  left-outside total skip k h i t = i .1 .1 ∙ rw (later-on k skip h, t)
+  left-outside total skip k h i t = i .1 ∙ rw (later-on k skip h, t)
 
   -- the cells of a column, and those so far, are no more than the row's entries
   left-size : (total skip k : ℕ) → k < l .tfields → Left l a (planFor l c s) total skip k
       → total + fieldOn l a c s k skip .n + length (from l a (c .choice) (c .heap) (c .row) (suc k)) ≤ length (row l a (planFor l c s))
-  left-size total skip k h i = omega (arith, i .1 .0, plan-n l a c s k skip, length-from l a (c .choice) (c .heap) (c .row) k h)
+  left-size total skip k h i = omega (arith, i .0, plan-n l a c s k skip, length-from l a (c .choice) (c .heap) (c .row) k h)
 
   pub left-bound : (total skip k : ℕ) → k < l .tfields → Left l a (planFor l c s) total skip k
       → total + fieldOn l a c s k skip .n ≤ length (row l a (planFor l c s))
@@ -79,14 +82,11 @@ module _ (l : BinTable) (a : List ℕ) (c : TableData) (s : Stepped) where
       → Left l a (planFor l c s) (total + fieldOn l a c s k skip .n) (fieldOn l a c s k skip .skip) (suc k)
   left-on total skip k h i t =
       let f = fieldOn l a c s k skip in (
-        h,
-        (
-          left-size total skip k h i,
-          i .1 .1 ∙ rw (later-on k skip h, t) (after-all (plannedCell a f) (f .n) total (later l a (planFor l c s) (suc k) (f .skip))),
-        ),
+        left-size total skip k h i,
+        i .1 ∙ rw (later-on k skip h, t) (after-all (plannedCell a f) (f .n) total (later l a (planFor l c s) (suc k) (f .skip))),
       )
 
   pub left-end : (total skip k : ℕ) → l .tfields ≤ k → Left l a (planFor l c s) total skip k
       → leftOf (gather (drop (c .passed) (row l a (planFor l c s)))) ≡ L.Cells total
   unfolding gather
-  left-end total skip k h i = i .1 .1 ∙ rw (from-end l a (c .choice) (c .heap) (c .row) k h, drop-nil {A = Entry} skip, add-zero total)
+  left-end total skip k h i = i .1 ∙ rw (from-end l a (c .choice) (c .heap) (c .row) k h, drop-nil {A = Entry} skip, add-zero total)

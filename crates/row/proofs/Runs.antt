@@ -6,13 +6,13 @@ use mathlib.Core.Path.{_≡_, refl, sym, ap, ap₂, subst, _∙_}
 use mathlib.Core.Bool.{Bool, true, cond}
 use mathlib.Core.List.{List, [], _∷_, map}
 use lib.IntN.{pos}
-use Rattle.card.specs.Text.{bytes}
+use Rattle.ascii.specs.Text.{bytes}
 use Rattle.tform.specs.Width.{among, letterWidth}
 use Rattle.layout.specs.declared.BinTable.{BinTable}
-use Rattle.layout.specs.declared.Check.{Check}
-use Rattle.layout.specs.declared.Check.the-variants.{Passed}
-use Rattle.layout.specs.declared.Refusal.the-variants as R
-use Rattle.layout.specs.Refusal.{outcomeOf}
+use Rattle.refusal.specs.declared.Check.{Check}
+use Rattle.refusal.specs.declared.Check.the-variants.{Passed}
+use Rattle.refusal.specs.declared.Refusal.the-variants as R
+use Rattle.refusal.specs.Refusal.{outcomeOf}
 use Rattle.layout.specs.Layout.{columnsOk, layoutOk}
 use Rattle.bintable.specs.declared.Parsed.{Parsed}
 use Rattle.bintable.specs.Entry.{accepted, entry}

@@ -10,7 +10,7 @@ use lib.ListN.{length, getD, set, drop, length-append, length-drop}
 use lib.Seq.{drop-nil, drop-cons, drop-drop, set-at}
 use lib.Dec.{leb, ltb}
 use borrow.Author.Tests.{leb-true, ltb-true}
-use Rattle.card.proofs.Cases.{by-test}
+use Rattle.ascii.proofs.Cases.{by-test}
 use Rattle.layout.specs.declared.Column.{Column}
 use Rattle.layout.specs.declared.BinTable.{BinTable}
 use Rattle.layout.specs.Layout.{layoutOk, dataLimit}

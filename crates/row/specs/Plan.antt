@@ -12,7 +12,7 @@ use Rattle.tform.specs.declared.TFormType.{TFormType}
 use Rattle.tform.specs.declared.TFormType.the-variants as T
 use Rattle.layout.specs.declared.Column.{Column}
 use Rattle.layout.specs.declared.BinTable.{BinTable}
-use Rattle.layout.specs.declared.Refusal.the-variants as R
+use Rattle.refusal.specs.declared.Refusal.the-variants as R
 use Rattle.layout.specs.Layout.{noColumn, dataSize}
 use Rattle.cell.specs.declared.Cell.{Cell}
 use Rattle.cell.specs.declared.DataValue.{DataValue}

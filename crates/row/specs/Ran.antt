@@ -5,8 +5,8 @@ use mathlib.Core.Path.{_≡_}
 use mathlib.Core.Bool.{Bool}
 use mathlib.Core.List.{List, [], _∷_, map}
 use Rattle.layout.specs.declared.BinTable.{BinTable}
-use Rattle.layout.specs.declared.Check.the-variants.{Passed}
-use Rattle.layout.specs.Refusal.{outcomeOf}
+use Rattle.refusal.specs.declared.Check.the-variants.{Passed}
+use Rattle.refusal.specs.Refusal.{outcomeOf}
 use Rattle.bintable.specs.declared.Parsed.{Parsed}
 use Rattle.bintable.specs.Entry.{allChecks, entry, layoutIn}
 use Rattle.cell.specs.declared.Cell.{Cell}

@@ -2,7 +2,6 @@
 ghost use mathlib.Core.Path.{_≡_};
 ghost use Prim.Native.Nat.{_+_, _≤_};
 ghost use lib.ListN.{length};
-ghost use Rattle.cell.specs.Item.{item};
 ghost use Rattle.row.specs.Plan.{entryValue, plannedCell, PlaceFits, PlanOk, storedAt, filled, RowFits};
 use super::plan;
 use super::plan::FieldKind;
@@ -10,70 +9,17 @@ use super::plan::FieldPlan;
 use super::plan::RowPlan;
 use cell::Cell;
 use cell::DataValue;
-use cell::floats;
 use cell::words;
 use layout::Column;
 use layout::TFIELDS_LIMIT;
 use tform::VariableArrayTy;
-
-// The value of the item at a place, as `cell::read_item` gives it. `entry` is its only caller, so that it is inlined there.
-fn item(area: &[u8], at: u64, ty: VariableArrayTy, column: Column) -> DataValue
-    ensures { λ r. ⌜ r ≡ item column ty (now (area .entry)) at ⌝ }
-{
-    match ty {
-        VariableArrayTy::L => {
-            let value = cell::read_logical(words::byte(area, at, 0));
-            DataValue::Logical(value)
-        }
-        VariableArrayTy::X => DataValue::Bit(words::byte(area, at, 0)),
-        VariableArrayTy::B => DataValue::UnsignedByte(words::byte(area, at, 0)),
-        VariableArrayTy::I => DataValue::Short(words::signed16(words::u16_at(area, at, 0))),
-        VariableArrayTy::J => DataValue::Integer(words::signed32(words::u32_at(area, at, 0))),
-        VariableArrayTy::K => DataValue::Long(words::signed64(words::u64_at(area, at, 0))),
-        VariableArrayTy::A => DataValue::Character(words::byte(area, at, 0)),
-        VariableArrayTy::E => {
-            let bits = words::u32_at(area, at, 0);
-            let value = floats::single(bits);
-            DataValue::Float { value, bits }
-        }
-        VariableArrayTy::D => {
-            let bits = words::u64_at(area, at, 0);
-            let value = floats::double(bits);
-            DataValue::Double { value, bits }
-        }
-        VariableArrayTy::C => {
-            let real_bits = words::u32_at(area, at, 0);
-            let imag_bits = words::u32_at(area, at, 4);
-            let real = floats::single(real_bits);
-            let imag = floats::single(imag_bits);
-            DataValue::ComplexFloat {
-                real,
-                real_bits,
-                imag,
-                imag_bits,
-            }
-        }
-        VariableArrayTy::M => {
-            let real_bits = words::u64_at(area, at, 0);
-            let imag_bits = words::u64_at(area, at, 8);
-            let real = floats::double(real_bits);
-            let imag = floats::double(imag_bits);
-            DataValue::ComplexDouble {
-                real,
-                real_bits,
-                imag,
-                imag_bits,
-            }
-        }
-    }
-}
 
 // The value of an entry of a field at a place.
 fn entry(area: &[u8], at: u64, kind: FieldKind, ty: VariableArrayTy, column: Column) -> DataValue
     ensures { λ r. ⌜ r ≡ entryValue column (now (area .entry)) kind ty at ⌝ }
 {
     match kind {
-        FieldKind::Items => item(area, at, ty, column),
+        FieldKind::Items => cell::read_item(area, at, ty, column),
         FieldKind::Descriptor32 => {
             let num_elems = words::u32_at(area, at, 0);
             let offset_byte = words::u32_at(area, at, 4);
@@ -126,12 +72,12 @@ fn fill_field(list: &mut [Cell], at: usize, area: &[u8], plan: FieldPlan)
     }
 }
 
-// The cells of a row, field by field, into the front of the list.
+// The cells of a row, chosen field by chosen field, into the front of the list.
 pub fn fill_row(list: &mut [Cell], columns: [Column; TFIELDS_LIMIT], area: &[u8], plan: RowPlan)
     requires { ⌜ (plan .tfields ≤ 64) × RowFits columns (now area) plan 0 (plan .tfields) (plan .passed) 0 (length (now list)) ⌝ }
     ensures { λ _. ⌜ now (list .exit) ≡ filled columns (now (area .entry)) plan 0 (plan .tfields) (plan .passed) 0 (now (list .entry)) ⌝ }
 {
-    let mut c = 0;
+    let mut c = table::pass::next_chosen(plan.choice, 0);
     let mut at = 0;
     let mut skip = plan.passed;
     while c < plan.tfields {
@@ -140,6 +86,6 @@ pub fn fill_row(list: &mut [Cell], columns: [Column; TFIELDS_LIMIT], area: &[u8]
         fill_field(list, at, area, planned);
         at = at + planned.n;
         skip = planned.skip;
-        c = c + 1;
+        c = table::pass::next_chosen(plan.choice, c + 1);
     }
 }

@@ -1,21 +1,20 @@
 // What a row read does, decided before it stores a cell: its answer, the cursor after it, and which cells each field gives.
 ghost use mathlib.Core.Path.{_≡_};
 ghost use mathlib.Core.Bool.{true};
-ghost use Prim.Native.Nat.{_+_, _<_, _^_, min};
+ghost use Prim.Native.Nat.{_+_, _<_, _^_};
 ghost use Rattle.layout.specs.Layout.{naxis2Limit, layoutOk};
-ghost use Rattle.walk.specs.Plain.{rowEntries};
-ghost use Rattle.walk.specs.Walk.{stop, rest};
+ghost use Rattle.walk.specs.Plain.{chosen, rowEntries};
+ghost use Rattle.walk.specs.Walk.{rest};
 ghost use Rattle.walk.specs.Step.{fits, stateOf};
 ghost use Rattle.row.specs.Plan.{fieldFrom, descriptorKind, planOf, fieldPlan, isOutside, leftOf, planFor, noPlan, nextRow, restPlan, rowPlan};
 use cell::Field;
 use layout::BinTable;
 use layout::Column;
-use layout::Refusal;
 use layout::TFIELDS_LIMIT;
+use refusal::Refusal;
 use tform::TFormType;
 use tform::VariableArrayTy;
 use walk::Answer;
-use walk::COUNT_STOP;
 use walk::Stepped;
 use walk::TableData;
 
@@ -131,34 +130,29 @@ fn descriptor_plan(
     }
 }
 
-// The plan of the field of column c, where `skip` entries are still to be passed.
+// The plan of the field of column c, which is chosen, where `skip` entries are still to be passed.
 pub fn field_plan(area: &[u8], plan: RowPlan, column: Column, c: usize, skip: u64) -> FieldPlan
-    requires { ⌜ plan .start + column .start < 2 ^ 64 ⌝ }
+    requires { ⌜ (chosen (plan .choice) c ≡ true) × (plan .start + column .start < 2 ^ 64) ⌝ }
     ensures { λ r. ⌜ r ≡ fieldPlan (now (area .entry)) plan column c skip ⌝ }
 {
-    if table::chosen(plan.choice, c) {
-        let at = plan.start + column.start;
-        let form = column.form;
-        match form {
-            TFormType::Items(ty) => {
-                let size = tform::item_count(ty, column.count as u64);
-                return field_from(plan.row, c, column, FieldKind::Items, ty, at, size, skip);
-            }
-            TFormType::P(_) => {
-                let kind = FieldKind::Descriptor32;
-                let field = cell::read_field(area, at, column, plan.heap, plan.theap, plan.end);
-                return descriptor_plan(plan.row, c, column, kind, at, field, skip);
-            }
-            TFormType::Q(_) => {
-                let kind = FieldKind::Descriptor64;
-                let field = cell::read_field(area, at, column, plan.heap, plan.theap, plan.end);
-                return descriptor_plan(plan.row, c, column, kind, at, field, skip);
-            }
+    let at = plan.start + column.start;
+    let form = column.form;
+    match form {
+        TFormType::Items(ty) => {
+            let size = tform::item_count(ty, column.count as u64);
+            field_from(plan.row, c, column, FieldKind::Items, ty, at, size, skip)
+        }
+        TFormType::P(_) => {
+            let kind = FieldKind::Descriptor32;
+            let field = cell::read_field(area, at, column, plan.heap, plan.theap, plan.end);
+            descriptor_plan(plan.row, c, column, kind, at, field, skip)
+        }
+        TFormType::Q(_) => {
+            let kind = FieldKind::Descriptor64;
+            let field = cell::read_field(area, at, column, plan.heap, plan.theap, plan.end);
+            descriptor_plan(plan.row, c, column, kind, at, field, skip)
         }
     }
-    // A column that is not chosen has no entry, so its field is never looked at.
-    let unread = FieldKind::OutsideHeap;
-    field_from(plan.row, c, column, unread, VariableArrayTy::L, 0, 0, skip)
 }
 
 // The kind of a form's descriptor; a form of items has none.
@@ -174,18 +168,14 @@ fn descriptor_kind(form: TFormType) -> FieldKind
 
 // The same plan for `rest_of`. So `field_plan` has one caller, the loop that stores, and is compiled into it.
 fn judged_plan(area: &[u8], plan: RowPlan, column: Column, c: usize, skip: u64) -> FieldPlan
-    requires { ⌜ plan .start + column .start < 2 ^ 64 ⌝ }
+    requires { ⌜ (chosen (plan .choice) c ≡ true) × (plan .start + column .start < 2 ^ 64) ⌝ }
     ensures { λ r. ⌜ r ≡ fieldPlan (now (area .entry)) plan column c skip ⌝ }
 {
-    if table::chosen(plan.choice, c) {
-        let at = plan.start + column.start;
-        let form = column.form;
-        let kind = descriptor_kind(form);
-        let field = cell::read_field(area, at, column, plan.heap, plan.theap, plan.end);
-        return descriptor_plan(plan.row, c, column, kind, at, field, skip);
-    }
-    let none = FieldKind::OutsideHeap;
-    field_from(plan.row, c, column, none, VariableArrayTy::L, 0, 0, skip)
+    let at = plan.start + column.start;
+    let form = column.form;
+    let kind = descriptor_kind(form);
+    let field = cell::read_field(area, at, column, plan.heap, plan.theap, plan.end);
+    descriptor_plan(plan.row, c, column, kind, at, field, skip)
 }
 
 // Whether a field that has an entry left is an array outside the heap.
@@ -250,7 +240,7 @@ fn rest_of(layout: BinTable, area: &[u8], cursor: TableData) -> Rest
     let plan = plan_for(layout, cursor, stepped);
     let mut total: u64 = 0;
     let mut skip = cursor.passed;
-    let mut c: usize = 0;
+    let mut c = table::pass::next_chosen(plan.choice, 0);
     while c < layout.tfields {
         let column = layout.columns[c];
         let planned = judged_plan(area, plan, column, c, skip);
@@ -259,21 +249,9 @@ fn rest_of(layout: BinTable, area: &[u8], cursor: TableData) -> Rest
         }
         total += planned.n as u64;
         skip = planned.skip;
-        c += 1;
+        c = table::pass::next_chosen(plan.choice, c + 1);
     }
     Rest::Cells(total)
-}
-
-// A count with n more cells; it stays at its stop.
-fn counted(count: u32, n: u64) -> u32
-    ensures { λ r. ⌜ r ≡ min stop (count + n) ⌝ }
-{
-    let room = (COUNT_STOP - count) as u64;
-    if n < room {
-        count + n as u32
-    } else {
-        COUNT_STOP
-    }
 }
 
 // The cursor at the start of the next row, with n more cells counted.
@@ -281,13 +259,11 @@ fn at_next_row(cursor: TableData, n: u64) -> TableData
     requires { ⌜ cursor .row < naxis2Limit ⌝ }
     ensures { λ r. ⌜ r ≡ nextRow cursor n ⌝ }
 {
-    TableData {
-        choice: cursor.choice,
-        heap: cursor.heap,
-        row: cursor.row + 1,
-        passed: 0,
-        count: counted(cursor.count, n),
-    }
+    let mut next = cursor;
+    next.row = cursor.row + 1;
+    next.passed = 0;
+    next.count = walk::counted(cursor.count, n);
+    next
 }
 
 // The plan for what is left of the cursor's row and a list of `room` cells.

@@ -1,4 +1,3 @@
 pub mod Lines
-pub mod Reading
 pub mod Listing
 pub mod Says

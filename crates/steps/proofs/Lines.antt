@@ -10,9 +10,9 @@ use lib.ListN.{length, take, drop, getD, length-drop, drop-of-length-le}
 use lib.Seq.{length-take-le, drop-drop, drop-cons, take-add}
 use lib.Dec.{eqb, ltb, leb, leb·suc-suc}
 use borrow.Author.Tests.{lt-ltb, le-leb, lt-leb, ltb-true, ltb-false, ne-eqb}
-use Rattle.card.specs.Text.{front}
-use Rattle.card.proofs.Cases.{either}
-use Rattle.card.proofs.Front.{front-le}
+use Rattle.ascii.specs.Text.{front}
+use Rattle.ascii.proofs.Cases.{either}
+use Rattle.ascii.proofs.Front.{front-le}
 use Rattle.steps.specs.Split.{prepend, linesOf, lineAt, parts, before, lineFeeds}
 
 -- the first line of some bytes, and the lines after its line feed

@@ -1,24 +1,25 @@
--- What a line can say: the numbers in it are few, and which lines choose indexes.
+-- What a line can say: a row read's list is short, and which lines choose indexes.
 -- Assumes nothing.
 use mathlib.Core.Path.{_≡_, refl, sym, ap, subst, _∙_}
-use mathlib.Core.List.{List, [], _∷_, _++_}
+use mathlib.Core.List.{List, [], _++_}
 use mathlib.Core.Bool.{true, false}
-use Prim.Native.Nat.{ℕ, suc, _-_, _≤_, _<_}
+use Prim.Native.Nat.{ℕ, _-_, _≤_}
 use native.Mathlib.Omega.{arith}
-use lib.ListN.{length, take, drop, length-take, length-drop, take-append-drop}
-use lib.Dec.{eqb, leb}
-use borrow.Author.Tests.{leb-true, le-leb, lt-leb}
-use Rattle.card.specs.Text.{bytes, same, front}
-use Rattle.card.proofs.Cases.{by-test, either}
-use Rattle.card.proofs.Parts.{part-from}
-use Rattle.card.proofs.Same.{same-true}
-use Rattle.keyword.specs.declared.Found.{Found}
-use Rattle.keyword.specs.declared.Found.the-variants.{At, Nothing}
+use lib.ListN.{length, take, drop, length-take, take-append-drop}
+use lib.Dec.{leb}
+use borrow.Author.Tests.{leb-true}
+use Rattle.ascii.specs.Text.{bytes, same, front}
+use Rattle.ascii.proofs.Cases.{by-test, either}
+use Rattle.ascii.proofs.Parts.{part-from}
+use Rattle.ascii.proofs.Same.{same-true}
+use Rattle.ascii.specs.declared.Found.{Found}
+use Rattle.ascii.specs.declared.Found.the-variants.{At, Nothing}
 use Rattle.steps.specs.declared.Command.{Command}
 use Rattle.steps.specs.declared.Command.the-variants as C
-use Rattle.steps.specs.Split.{prepend, parts}
-use Rattle.steps.specs.Numbers.{number, Numbers, allOf, notAll, withFirst, numbers}
-use Rattle.steps.specs.Line.{Says, row, rowBy, seekBy, chooseBy, is, begins, says, commandOf, indexesOf, listedIn}
+use Rattle.steps.specs.Split.{parts}
+use Rattle.ascii.specs.Number.{number}
+use Rattle.steps.specs.Numbers.{Numbers, allOf, notAll, numbers}
+use Rattle.steps.specs.Line.{Says, row, rowBy, seekBy, chooseBy, is, begins, says, commandOf, indexesOf}
 
 -- the bound of a row's cells
 abbrev RowOk : Command → Type 0
@@ -60,28 +61,6 @@ row-few s n e = subst RowOk e (row-ok s)
 pub row-says-few : (s : List ℕ) (n : ℕ) → says s ≡ row n → n ≤ 512
 row-says-few s n e = row-few s n (ap commandOf e)
 
--- a line has at most one part more than bytes, and each number is a part
-prepend-few : (b : ℕ) (ps : List (List ℕ)) → length (prepend b ps) ≤ suc (length ps)
-prepend-few b [] = omega arith
-prepend-few b (p ∷ ps) = omega arith
-
-parts-few : (s : List ℕ) → length (parts s) ≤ suc (length s)
-unfolding parts
-parts-few [] = omega arith
-parts-few (b ∷ bs) =
-    by-test (λ (ps : List (List ℕ)). length ps ≤ suc (suc (length bs))) (eqb b 32) (λ _. omega (arith, parts-few bs))
-    (λ _. omega (arith, parts-few bs, prepend-few b (parts bs)))
-
-first-few : (f : Found) (r : Numbers) → length (indexesOf (chooseBy (withFirst f r))) ≤ suc (length (indexesOf (chooseBy r)))
-first-few (At n) (allOf ns) = omega arith
-first-few (At n) notAll = omega arith
-first-few Nothing r = omega arith
-
-numbers-few : (ps : List (List ℕ)) → length (indexesOf (chooseBy (numbers ps))) ≤ length ps
-unfolding numbers
-numbers-few [] = omega arith
-numbers-few (p ∷ ps) = omega (arith, numbers-few ps, first-few (number p) (numbers ps))
-
 module _ (s : List ℕ) where
   -- a word that a line begins with lies within it
   word-inside : (w : List ℕ) → same (take (length w) s) w ≡ true → length w ≤ length s
@@ -98,30 +77,6 @@ module _ (s : List ℕ) where
   pub choose-inside : begins "choose " s ≡ true → 7 ≤ length s
   unfolding bytes
   choose-inside e = word-inside (bytes "choose ") e
-
-  rows-few : (f : Found) → length (indexesOf (rowBy f)) ≤ length s
-  rows-few (At n) = by-test (λ (x : Says). length (indexesOf x) ≤ length s) (leb n 512) (λ _. omega arith) (λ _. omega arith)
-  rows-few Nothing = omega arith
-
-  seeks-few : (f : Found) → length (indexesOf (seekBy f)) ≤ length s
-  seeks-few (At n) = omega arith
-  seeks-few Nothing = omega arith
-
-  chosen-few : begins "choose " s ≡ true → length (indexesOf (chooseBy (numbers (parts (drop 7 s))))) ≤ length s
-  chosen-few e =
-      omega (arith, choose-inside e, numbers-few (parts (drop 7 s)), parts-few (drop 7 s), length-drop 7 s)
-
-  pub indexes-few : length (indexesOf (says s)) ≤ length s
-  unfolding says
-  indexes-few =
-      let P : Says → Type 0 = λ (x : Says). length (indexesOf x) ≤ length s in
-      by-test P (is "cell" s) (λ _. omega arith)
-      (λ _. by-test P (begins "row " s) (λ _. rows-few (number (drop 4 s)))
-      (λ _. by-test P (begins "seek " s) (λ _. seeks-few (number (drop 5 s)))
-      (λ _. by-test P (is "choose all" s) (λ _. omega arith)
-      (λ _. by-test P (begins "choose " s) chosen-few
-      (λ _. by-test P (is "heap on" s) (λ _. omega arith)
-      (λ _. by-test P (is "heap off" s) (λ _. omega arith) (λ _. omega arith)))))))
 
 -- the indexes of a line that begins as a choice
 chosen-all : (t : List ℕ) → same t (bytes "all") ≡ true → indexesOf (chooseBy (numbers (parts t))) ≡ []
@@ -163,17 +118,3 @@ module _ (s : List ℕ) where
       (λ _. by-test P (is "choose all" s) (λ _. refl)
       (λ _. by-test P (is "heap on" s) (λ _. refl)
       (λ _. by-test P (is "heap off" s) (λ _. refl) (λ _. refl)))))))
-
-  -- so a line with indexes begins as a choice
-  pub begun : (length (indexesOf (says s)) ≡ 0 → ⊥) → begins "choose " s ≡ true
-  begun h = either (begins "choose " s) (λ e. e) (λ e. absurd (h (ap length (indexes-other e))))
-
--- the list stays as it was: no indexes, or no room for them
-pub listed-none : (xs ns : List ℕ) → length ns ≡ 0 → listedIn xs ns ≡ xs
-unfolding listedIn
-listed-none xs [] e = rw (le-leb 0 (length xs) (omega arith))
-listed-none xs (n ∷ ns) e = absurd (omega arith)
-
-pub listed-full : (xs ns : List ℕ) → length xs < length ns → listedIn xs ns ≡ xs
-unfolding listedIn
-listed-full xs ns h = rw (lt-leb (length ns) (length xs) h)

@@ -3,16 +3,17 @@
 use Prim.Native.Nat.{ℕ}
 use Prim.Native.String.{String}
 use mathlib.Core.Bool.{Bool, true, false, cond}
-use mathlib.Core.List.{List, [], _++_}
-use lib.ListN.{length, take, drop}
+use mathlib.Core.List.{List, [], _∷_}
+use lib.ListN.{length, take, drop, set}
 use lib.Dec.{leb}
-use Rattle.card.specs.Text.{bytes, same}
-use Rattle.keyword.specs.declared.Found.{Found}
-use Rattle.keyword.specs.declared.Found.the-variants.{At, Nothing}
+use Rattle.ascii.specs.Text.{bytes, same}
+use Rattle.ascii.specs.declared.Found.{Found}
+use Rattle.ascii.specs.declared.Found.the-variants.{At, Nothing}
 use Rattle.steps.specs.declared.Command.{Command}
 use Rattle.steps.specs.declared.Command.the-variants as C
 use Rattle.steps.specs.Split.{parts}
-use Rattle.steps.specs.Numbers.{number, Numbers, allOf, notAll, numbers}
+use Rattle.ascii.specs.Number.{number}
+use Rattle.steps.specs.Numbers.{Numbers, allOf, notAll, numbers}
 
 -- what a line says
 pub data Says : Type 0 where
@@ -79,6 +80,7 @@ indexesOf (row n) = []
 indexesOf (seek r) = []
 indexesOf bad = []
 
--- the list with the indexes at its front, where there is room for them, the rest of it as it was; without room all of it is
-unfoldable pub listedIn : List ℕ → List ℕ → List ℕ
-listedIn list ns = cond (leb (length ns) (length list)) (ns ++ drop (length ns) list) list
+-- the list with each index at the place that it names; one that names no place is left out
+unfoldable pub inPlaces : List ℕ → List ℕ → List ℕ
+inPlaces list [] = list
+inPlaces list (n ∷ ns) = inPlaces (set list n n) ns

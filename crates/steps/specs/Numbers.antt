@@ -1,17 +1,11 @@
 -- The numbers of a line (FORMAT.md, section 17).
 -- Assumes nothing.
-use Prim.Native.Nat.{ℕ, _^_}
-use mathlib.Core.Bool.{_&&_, cond}
+use Prim.Native.Nat.{ℕ}
+use mathlib.Core.Bool.{Bool, true, false}
 use mathlib.Core.List.{List, [], _∷_}
-use lib.ListN.{length}
-use lib.Dec.{eqb, ltb}
-use Rattle.card.specs.Text.{front, digit, decimal}
-use Rattle.keyword.specs.declared.Found.{Found}
-use Rattle.keyword.specs.declared.Found.the-variants.{At, Nothing}
-
--- a number: one digit or more and nothing else, and below 2^64. Zeros may stand in front
-unfoldable pub number : List ℕ → Found
-number s = cond (ltb 0 (length s) && (eqb (front digit s) (length s) && ltb (decimal 0 s) (2 ^ 64))) (At (decimal 0 s)) Nothing
+use Rattle.ascii.specs.declared.Found.{Found}
+use Rattle.ascii.specs.declared.Found.the-variants.{At, Nothing}
+use Rattle.ascii.specs.Number.{number}
 
 -- some numbers, or a part that is none
 pub data Numbers : Type 0 where
@@ -27,3 +21,8 @@ withFirst Nothing r = notAll
 unfoldable pub numbers : List (List ℕ) → Numbers
 numbers [] = allOf []
 numbers (p ∷ ps) = withFirst (number p) (numbers ps)
+
+-- whether they are all numbers
+abbrev pub areNumbers : Numbers → Bool
+areNumbers (allOf ns) = true
+areNumbers notAll = false

@@ -5,7 +5,7 @@ use mathlib.Core.Bool.{Bool, not, cond}
 use mathlib.Core.List.{List, [], _∷_}
 use lib.ListN.{take, drop}
 use lib.Dec.{eqb}
-use Rattle.card.specs.Text.{front}
+use Rattle.ascii.specs.Text.{front}
 
 -- a byte in front of the first part; a part of its own where there is none
 abbrev pub prepend : ℕ → List (List ℕ) → List (List ℕ)

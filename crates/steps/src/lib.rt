@@ -4,13 +4,14 @@ mod words;
 
 ghost use mathlib.Core.Path.{_≡_};
 ghost use mathlib.Core.Bool.{true, false, cond};
-ghost use lib.ListN.{length, drop};
+ghost use lib.ListN.{drop};
 ghost use Rattle.steps.specs.Split.{before, lineAt, lineFeeds, parts};
-ghost use Rattle.steps.specs.Numbers.{number, numbers};
-ghost use Rattle.steps.specs.Line.{says, rowBy, seekBy, chooseAll, chooseBy, heap, bad, is, begins, commandOf, indexesOf, listedIn};
-use keyword::Found;
+ghost use Rattle.ascii.specs.Number.{number};
+ghost use Rattle.steps.specs.Numbers.{numbers};
+ghost use Rattle.steps.specs.Line.{says, rowBy, seekBy, chooseAll, chooseBy, heap, bad, is, begins, commandOf, indexesOf, inPlaces};
+use ascii::Found;
 
-// What a line says. The indexes that it chooses are had by `indexes`.
+// What a line says. The indexes that it chooses are had by `place_indexes`.
 pub enum Command {
     ChooseAll,
     Choose,
@@ -58,13 +59,13 @@ pub fn line_feeds(text: &[u8]) -> usize
 pub fn parse_command(line: &[u8]) -> Command
     ensures { λ r. ⌜ r ≡ commandOf (says (now (line .entry))) ⌝ }
 {
-    if card::same_bytes(line, b"cell") {
+    if ascii::same_bytes(line, b"cell") {
         return Command::Cell;
     }
-    if words::begins_with(line, b"row ") {
+    if ascii::begins_with(line, b"row ") {
         return row_command(&line[4..]);
     }
-    if words::begins_with(line, b"seek ") {
+    if ascii::begins_with(line, b"seek ") {
         return seek_command(&line[5..]);
     }
     other_command(line)
@@ -74,7 +75,7 @@ pub fn parse_command(line: &[u8]) -> Command
 fn row_command(text: &[u8]) -> Command
     ensures { λ r. ⌜ r ≡ commandOf (rowBy (number (now (text .entry)))) ⌝ }
 {
-    match numbers::parse_number(text) {
+    match ascii::digits::parse_number(text) {
         Found::At(n) => {
             if n <= 512 {
                 Command::Row(n)
@@ -90,7 +91,7 @@ fn row_command(text: &[u8]) -> Command
 fn seek_command(text: &[u8]) -> Command
     ensures { λ r. ⌜ r ≡ commandOf (seekBy (number (now (text .entry)))) ⌝ }
 {
-    match numbers::parse_number(text) {
+    match ascii::digits::parse_number(text) {
         Found::At(n) => Command::Seek(n),
         Found::Nothing => Command::Bad,
     }
@@ -100,60 +101,49 @@ fn seek_command(text: &[u8]) -> Command
 fn other_command(line: &[u8]) -> Command
     ensures { λ r. ⌜ r ≡ commandOf (cond (is "choose all" (now (line .entry))) chooseAll (cond (begins "choose " (now (line .entry))) (chooseBy (numbers (parts (drop 7 (now (line .entry)))))) (cond (is "heap on" (now (line .entry))) (heap true) (cond (is "heap off" (now (line .entry))) (heap false) bad)))) ⌝ }
 {
-    if card::same_bytes(line, b"choose all") {
+    if ascii::same_bytes(line, b"choose all") {
         return Command::ChooseAll;
     }
-    if words::begins_with(line, b"choose ") {
+    if ascii::begins_with(line, b"choose ") {
         return choose_command(&line[7..]);
     }
     heap_command(line)
 }
 
-// `choose` with this after it. There is one part or more, so a count of 0 means that one of them is no number.
+// `choose` with this after it.
 fn choose_command(text: &[u8]) -> Command
     ensures { λ r. ⌜ r ≡ commandOf (chooseBy (numbers (parts (now (text .entry))))) ⌝ }
 {
-    if numbers::count_numbers(text) == 0 {
-        return Command::Bad;
+    if numbers::all_numbers(text) {
+        return Command::Choose;
     }
-    Command::Choose
+    Command::Bad
 }
 
 // A line that is none of the others.
 fn heap_command(line: &[u8]) -> Command
     ensures { λ r. ⌜ r ≡ commandOf (cond (is "heap on" (now (line .entry))) (heap true) (cond (is "heap off" (now (line .entry))) (heap false) bad)) ⌝ }
 {
-    if card::same_bytes(line, b"heap on") {
+    if ascii::same_bytes(line, b"heap on") {
         return Command::Heap(true);
     }
-    if card::same_bytes(line, b"heap off") {
+    if ascii::same_bytes(line, b"heap off") {
         return Command::Heap(false);
     }
     Command::Bad
 }
 
-// How many indexes a line chooses. The word `all` is no number, so `choose all` has none.
-fn index_count(line: &[u8]) -> usize
-    ensures { λ r. ⌜ r ≡ length (indexesOf (says (now (line .entry)))) ⌝ }
+// The indexes that a line chooses, each to the place of the list that it names. One that names no place is left out, and
+// the other places stay as they were.
+pub fn place_indexes(line: &[u8], list: &mut [usize])
+    ensures { λ _. ⌜ now (list .exit) ≡ inPlaces (now (list .entry)) (indexesOf (says (now (line .entry)))) ⌝ }
 {
-    if !words::begins_with(line, b"choose ") {
-        return 0;
+    if !ascii::begins_with(line, b"choose ") {
+        return;
     }
-    numbers::count_numbers(&line[7..])
-}
-
-// The indexes that a line chooses, to the front of the list, and how many they are. Where there is no room for all of them the list stays as it was.
-pub fn indexes(line: &[u8], list: &mut [usize]) -> usize
-    ensures count { λ r. ⌜ r ≡ length (indexesOf (says (now (line .entry)))) ⌝ }
-    ensures list { λ _. ⌜ now (list .exit) ≡ listedIn (now (list .entry)) (indexesOf (says (now (line .entry)))) ⌝ }
-{
-    let count = index_count(line);
-    if count == 0 {
-        return 0;
+    let text = &line[7..];
+    if !numbers::all_numbers(text) {
+        return;
     }
-    if list.len() < count {
-        return count;
-    }
-    numbers::store_numbers(&line[7..], list);
-    count
+    numbers::place_numbers(text, list);
 }

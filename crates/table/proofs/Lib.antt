@@ -1,2 +1,4 @@
+pub mod NoItems
 pub mod Places
 pub mod Scanned
+pub mod ToNext

@@ -10,7 +10,7 @@ use native.Mathlib.Omega.{arith}
 use lib.ListN.{length, getD, drop}
 use lib.Dec.{eqb, leb, ltb}
 use borrow.Author.Tests.{ltb-true, ltb-false, leb-true, lt-ltb, eq-eqb}
-use Rattle.card.proofs.Cases.{by-test, either, both}
+use Rattle.ascii.proofs.Cases.{by-test, either, both}
 use Rattle.tform.specs.Width.{countOk}
 use Rattle.layout.specs.declared.Column.{Column}
 use Rattle.layout.specs.declared.BinTable.{BinTable}

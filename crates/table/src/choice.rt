@@ -4,12 +4,12 @@ ghost use mathlib.Core.Bool.{cond};
 ghost use Prim.Native.Nat.{_+_, _*_, _≤_, _<_};
 ghost use lib.Dec.{ltb};
 ghost use Rattle.tform.specs.Width.{among};
-ghost use Rattle.layout.specs.declared.Check.the-variants.{Refused};
+ghost use Rattle.refusal.specs.declared.Check.the-variants.{Refused};
 ghost use Rattle.walk.specs.Plain.{chosen};
 ghost use Rattle.walk.specs.Walk.{start};
 ghost use Rattle.walk.specs.Step.{allColumns, listed, choiceFrom, cursorAt, noCursor, opened, notOpened, openingOf};
-use layout::Check;
-use layout::Refusal;
+use refusal::Check;
+use refusal::Refusal;
 use walk::Opened;
 use walk::TableData;
 

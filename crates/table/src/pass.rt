@@ -3,7 +3,7 @@ ghost use mathlib.Core.Path.{_≡_};
 ghost use mathlib.Core.Bool.{cond, _&&_};
 ghost use lib.Dec.{eqb};
 ghost use Rattle.tform.specs.Width.{countOk, fieldItems};
-ghost use Rattle.table.specs.Scan.{ready, isItems, plainColumn};
+ghost use Rattle.table.specs.Scan.{nextChosen, ready, isItems, plainColumn};
 use super::belong;
 use layout::Column;
 use layout::NAXIS1_LIMIT;
@@ -51,6 +51,20 @@ pub fn ready(
         return false;
     }
     belong::choice_ok(tfields, choice)
+}
+
+// The first column from c on that is chosen; 64 if there is none, or c where that is further on.
+pub fn next_chosen(choice: u64, c: usize) -> usize
+    ensures { λ r. ⌜ r ≡ nextChosen choice c ⌝ }
+{
+    if c < TFIELDS_LIMIT {
+        let zeros = u64::trailing_zeros(choice >> c) as usize;
+        if zeros < TFIELDS_LIMIT - c {
+            return c + zeros;
+        }
+        return TFIELDS_LIMIT;
+    }
+    c
 }
 
 // Whether a column's count is within its limit, and it starts where the one before ends.

@@ -1,7 +1,7 @@
 // The plain list of a row: how many entries it has, the entry at an index, and the next entry from a place on.
 ghost use mathlib.Core.Path.{_≡_};
 ghost use mathlib.Core.Bool.{true, cond};
-ghost use Prim.Native.Nat.{_-_, _<_};
+ghost use Prim.Native.Nat.{_-_, _≤_, _<_};
 ghost use lib.ListN.{length, getD};
 ghost use Rattle.layout.specs.Layout.{dataLimit};
 ghost use Rattle.cell.specs.Field.{field, sizeOf, ItemsInside};
@@ -10,7 +10,8 @@ ghost use Rattle.walk.specs.Plain.{entryIn, rowEntries};
 ghost use Rattle.walk.specs.Walk.{next};
 ghost use Rattle.walk.specs.Step.{fits};
 ghost use Rattle.table.specs.NextPlace.{nextPlace};
-use super::choice;
+ghost use Rattle.table.specs.Scan.{anyItems};
+use super::pass;
 use cell::Cell;
 use cell::Field;
 use layout::BinTable;
@@ -25,7 +26,8 @@ pub enum NextPlace {
     Nothing,
 }
 
-// How many entries the array of a descriptor at a place has, or the descriptor itself.
+// How many entries a field at a place has, by reading it. The loops of the long way call it too, so that `column_size`
+// has one caller, the pass of `next`, and is compiled into it.
 fn array_entries(area: &[u8], at: u64, column: Column, heap: bool, theap: u64, end: u64) -> u64
     ensures { λ r. ⌜ r ≡ sizeOf (field (now (area .entry)) at column heap theap end) ⌝ }
 {
@@ -63,24 +65,6 @@ pub fn column_size(
     0
 }
 
-// The same for the loops of the long way. So `column_size` has one caller, the pass of `next`, and is compiled into it.
-fn any_size(
-    area: &[u8],
-    at: u64,
-    column: Column,
-    is_chosen: bool,
-    heap: bool,
-    theap: u64,
-    end: u64,
-) -> u64
-    ensures { λ r. ⌜ r ≡ cond «is_chosen» (sizeOf (field (now (area .entry)) at column heap theap end)) 0 ⌝ }
-{
-    if is_chosen {
-        return array_entries(area, at, column, heap, theap, end);
-    }
-    0
-}
-
 // How many entries a row has.
 pub fn row_size(layout: BinTable, area: &[u8], choice: u64, heap: bool, row: u64) -> u64
     requires { ⌜ (fits layout (now area) ≡ true) × (row < layout .naxis2) ⌝ }
@@ -90,21 +74,13 @@ pub fn row_size(layout: BinTable, area: &[u8], choice: u64, heap: bool, row: u64
     let main = layout.naxis1 * layout.naxis2;
     let end = main + layout.pcount;
     let mut total: u64 = 0;
-    let mut c: usize = 0;
+    let mut c = pass::next_chosen(choice, 0);
     while c < layout.tfields {
         let column = layout.columns[c];
-        let is_chosen = choice::chosen(choice, c);
-        let size = any_size(
-            area,
-            start + column.start,
-            column,
-            is_chosen,
-            heap,
-            layout.theap,
-            end,
-        );
+        let at = start + column.start;
+        let size = array_entries(area, at, column, heap, layout.theap, end);
         total += size;
-        c += 1;
+        c = pass::next_chosen(choice, c + 1);
     }
     total
 }
@@ -162,21 +138,37 @@ pub fn entry_at(layout: BinTable, area: &[u8], choice: u64, heap: bool, row: u64
     let main = layout.naxis1 * layout.naxis2;
     let end = main + layout.pcount;
     let mut left = k;
-    let mut c: usize = 0;
+    let mut c = pass::next_chosen(choice, 0);
     while c < layout.tfields {
         let column = layout.columns[c];
         let at = start + column.start;
-        let is_chosen = choice::chosen(choice, c);
-        let size = any_size(area, at, column, is_chosen, heap, layout.theap, end);
+        let field = cell::read_field(area, at, column, heap, layout.theap, end);
+        let size = cell::field_size(field);
         if left < size {
-            let field = cell::read_field(area, at, column, heap, layout.theap, end);
             return entry_in(area, column, row, c, field, left);
         }
         left -= size;
-        c += 1;
+        c = pass::next_chosen(choice, c + 1);
     }
     // Never reached: k is an index of the row.
     Entry::OutsideHeap { column: 0 }
+}
+
+// Whether a chosen column holds an item or a descriptor. If none does, no row has an entry.
+fn any_items(layout: BinTable, choice: u64) -> bool
+    requires { ⌜ layout .tfields ≤ 64 ⌝ }
+    ensures { λ r. ⌜ r ≡ anyItems layout choice 0 (layout .tfields) ⌝ }
+{
+    let mut c = pass::next_chosen(choice, 0);
+    while c < layout.tfields {
+        let column = layout.columns[c];
+        let form = column.form;
+        if 0 < tform::field_items(form, column.count) {
+            return true;
+        }
+        c = pass::next_chosen(choice, c + 1);
+    }
+    false
 }
 
 // The next entry from a place on, passing rows that have none left.
@@ -191,6 +183,9 @@ pub fn find_entry(
     requires { ⌜ fits layout (now area) ≡ true ⌝ }
     ensures { λ r. ⌜ r ≡ nextPlace (rowEntries layout (now (area .entry)) choice heap) (next (rowEntries layout (now (area .entry)) choice heap) (layout .naxis2) (layout .naxis2 - row) row passed) ⌝ }
 {
+    if !any_items(layout, choice) {
+        return NextPlace::Nothing;
+    }
     let mut r = row;
     let mut p = passed;
     while r < layout.naxis2 {

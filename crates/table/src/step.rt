@@ -2,27 +2,19 @@
 ghost use mathlib.Core.Path.{_≡_};
 ghost use mathlib.Core.Bool.{true};
 ghost use mathlib.Core.List.{[]};
-ghost use Prim.Native.Nat.{_+_, _<_, min};
+ghost use Prim.Native.Nat.{_<_};
 ghost use Rattle.layout.specs.Layout.{naxis2Limit};
-ghost use Rattle.walk.specs.Walk.{readCell, stop, placed, grown, pass, entryOutcome, seekOutcome};
+ghost use Rattle.walk.specs.Walk.{readCell, placed, grown, pass, entryOutcome, seekOutcome};
 ghost use Rattle.walk.specs.Step.{belongs, stateOf, cursorAt, withCursor, cursorStep, resultOf};
 use super::belong;
 use super::rows;
 use super::rows::NextPlace;
 use layout::BinTable;
-use layout::Refusal;
+use refusal::Refusal;
 use walk::Answer;
-use walk::COUNT_STOP;
 use walk::Entry;
 use walk::Stepped;
 use walk::TableData;
-
-// A count with one more cell; it stays at its stop.
-fn one_more(count: u32) -> u32
-    ensures { λ r. ⌜ r ≡ min stop (count + 1) ⌝ }
-{
-    if count < COUNT_STOP { count + 1 } else { count }
-}
 
 // The cursor at another place.
 fn placed(cursor: TableData, row: u64, passed: u64) -> TableData
@@ -46,7 +38,7 @@ fn grown(cursor: TableData) -> TableData
         heap: cursor.heap,
         row: cursor.row,
         passed: cursor.passed,
-        count: one_more(cursor.count),
+        count: walk::counted(cursor.count, 1),
     }
 }
 

@@ -19,7 +19,7 @@ mod put;
 use cell::Cell;
 use cell::DataValue;
 use layout::BinTable;
-use layout::Check;
+use refusal::Check;
 use walk::Opened;
 use walk::Stepped;
 use walk::TableData;

@@ -2,8 +2,8 @@
 use cell::Cell;
 use cell::DataValue;
 use cell::Logical;
-use layout::Refusal;
 use libc::STDOUT_FILENO;
+use refusal::Refusal;
 use walk::Answer;
 use walk::Stepped;
 use walk::TableData;
@@ -179,8 +179,8 @@ fn print_cell(cell: Cell) {
 }
 
 pub fn print_refusal(refusal: Refusal) {
-    put_number(b"refused ", layout::number(refusal));
-    put_plain(layout::place(refusal));
+    put_number(b"refused ", refusal::number(refusal));
+    put_plain(refusal::place(refusal));
     put(b"\n");
 }
 

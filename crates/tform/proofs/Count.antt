@@ -8,8 +8,8 @@ use native.Mathlib.Omega.{arith}
 use lib.Dec.{eqb, leb}
 use lib.ListN.{take, drop}
 use borrow.Author.Tests.{lt-leb, leb-true, leb-false}
-use Rattle.card.specs.Text.{front, digit, decimal}
-use Rattle.card.proofs.Cases.{either, by-test}
+use Rattle.ascii.specs.Text.{front, digit, decimal}
+use Rattle.ascii.proofs.Cases.{either, by-test}
 use Rattle.tform.specs.declared.TFormType.{TFormType}
 use Rattle.tform.specs.declared.TForm.{TForm}
 use Rattle.tform.specs.declared.TForm.the-variants.{Valid, Invalid}

@@ -3,7 +3,7 @@
 use mathlib.Core.Path.{_≡_, refl}
 use mathlib.Core.List.{List, [], _∷_, map}
 use Prim.Native.Nat.{ℕ}
-use Rattle.card.specs.Text.{bytes, front, decimal}
+use Rattle.ascii.specs.Text.{bytes, front, decimal}
 use Rattle.tform.specs.declared.TForm.{TForm}
 use Rattle.tform.specs.declared.TForm.the-variants.{Valid, Invalid}
 use Rattle.tform.specs.Width.{among, letterWidth, fieldBytes}

@@ -9,8 +9,8 @@ use native.Mathlib.Nat.{mul-le-mul}
 use lib.Dec.{eqb}
 use lib.ListN.{length, getD, replicate, length-replicate}
 use borrow.Author.Tests.{eqb-true}
-use Rattle.card.specs.Text.{bytes}
-use Rattle.card.proofs.Cases.{by-test}
+use Rattle.ascii.specs.Text.{bytes}
+use Rattle.ascii.proofs.Cases.{by-test}
 use Rattle.tform.specs.declared.VariableArrayTy.{VariableArrayTy}
 use Rattle.tform.specs.declared.VariableArrayTy.the-variants.{L, X, B, I, J, K, A, E, D, C, M}
 use Rattle.tform.specs.declared.TFormType.{TFormType}

@@ -5,7 +5,7 @@ use mathlib.Core.List.{List, [], _∷_}
 use mathlib.Core.Bool.{cond}
 use lib.ListN.{take, drop}
 use lib.Dec.{eqb}
-use Rattle.card.specs.Text.{front, digit, decimal}
+use Rattle.ascii.specs.Text.{front, digit, decimal}
 use Rattle.tform.specs.declared.VariableArrayTy.{VariableArrayTy}
 use Rattle.tform.specs.declared.VariableArrayTy.the-variants as Ty
 use Rattle.tform.specs.declared.TFormType.{TFormType}

@@ -198,7 +198,7 @@ fn counted(kind: Kind, count: u32) -> TForm
 pub fn parse_tform(text: &[u8]) -> TForm
     ensures { λ r. ⌜ r ≡ formOf (now (text .entry)) ⌝ }
 {
-    let digits = card::text::leading_digits(text);
+    let digits = ascii::leading_digits(text);
     let count = parsing::repeat_count(text, digits);
     counted(parsing::kind_of(&text[digits..]), count)
 }

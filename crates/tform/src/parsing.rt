@@ -4,7 +4,7 @@ ghost use mathlib.Core.Bool.{cond};
 ghost use Prim.Native.Nat.{_≤_, min};
 ghost use lib.Dec.{eqb};
 ghost use lib.ListN.{take};
-ghost use Rattle.card.specs.Text.{front, digit, decimal};
+ghost use Rattle.ascii.specs.Text.{front, digit, decimal};
 ghost use Rattle.tform.specs.declared.TFormType.the-variants.{Items, P, Q};
 ghost use Rattle.tform.specs.Form.{elementOf, firstElement, kindWith, kindOf};
 use super::TFormType;

@@ -10,13 +10,13 @@ use lib.Dec.{leb, ltb}
 use lib.ListN.{length, drop, length-append, length-drop}
 use lib.Seq.{drop-append-seam}
 use borrow.Author.Tests.{leb-true}
-use Rattle.card.proofs.Cases.{by-test}
-use Rattle.header.specs.Checks as H
+use Rattle.ascii.proofs.Cases.{by-test}
+use Rattle.refusal.specs.Refusal as H
 use Rattle.tform.specs.Width.{among}
 use Rattle.layout.specs.declared.BinTable.{BinTable}
-use Rattle.layout.specs.declared.Check.{Check}
-use Rattle.layout.specs.declared.Check.the-variants as C
-use Rattle.layout.proofs.Decided.{checkOf, check-back, outcome-decides}
+use Rattle.refusal.specs.declared.Check.{Check}
+use Rattle.refusal.specs.declared.Check.the-variants as C
+use Rattle.refusal.proofs.Decided.{checkOf, check-back, outcome-decides}
 use Rattle.cell.specs.declared.Cell.{Cell}
 use Rattle.walk.specs.declared.TableData.{TableData}
 use Rattle.walk.specs.declared.Entry.{Entry}

@@ -13,7 +13,7 @@ use lib.ListN.{length, getD, drop, drop-of-length-le}
 use lib.Seq.{drop-cons}
 use lib.Pow.{pow-pos, pow-mono}
 use borrow.Author.Tests.{ltb-true, lt-ltb, ltb-false, le-ltb, eqb-false, eq-eqb, ne-eqb}
-use Rattle.card.proofs.Cases.{by-test, both, either}
+use Rattle.ascii.proofs.Cases.{by-test, both, either}
 use Rattle.tform.specs.Width.{among}
 use Rattle.layout.specs.declared.BinTable.{BinTable}
 use Rattle.walk.specs.Plain.{chosen}

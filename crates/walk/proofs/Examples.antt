@@ -6,7 +6,7 @@ use mathlib.Core.Bool.{Bool, true, false}
 use mathlib.Core.List.{List, [], _∷_, map}
 use lib.ListN.{replicate}
 use lib.IntN.{pos, negsuc}
-use Rattle.card.specs.Text.{bytes}
+use Rattle.ascii.specs.Text.{bytes}
 use Rattle.tform.specs.declared.VariableArrayTy.the-variants as T
 use Rattle.tform.specs.declared.TFormType.{TFormType}
 use Rattle.tform.specs.declared.TFormType.the-variants as F

@@ -10,7 +10,7 @@ use native.Mathlib.Omega.{arith}
 use lib.ListN.{length, drop}
 use lib.Dec.{leb, ltb}
 use borrow.Author.Tests.{ltb-true, ltb-false, lt-ltb, eq-eqb}
-use Rattle.card.proofs.Cases.{by-test}
+use Rattle.ascii.proofs.Cases.{by-test}
 use Rattle.layout.specs.declared.BinTable.{BinTable}
 use Rattle.cell.specs.declared.Cell.{Cell}
 use Rattle.walk.specs.declared.Entry.{Entry}

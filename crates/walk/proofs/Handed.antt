@@ -9,7 +9,7 @@ use lib.Dec.{leb, ltb}
 use lib.ListN.{length, getD, take, drop}
 use lib.Seq.{take-append-seam}
 use borrow.Author.Tests.{ltb-true}
-use Rattle.card.proofs.Cases.{by-test}
+use Rattle.ascii.proofs.Cases.{by-test}
 use Rattle.layout.specs.declared.BinTable.{BinTable}
 use Rattle.cell.specs.declared.DataValue.{DataValue}
 use Rattle.cell.specs.declared.Cell.{Cell}

@@ -9,7 +9,7 @@ use lib.Dec.{ltb}
 use lib.ListN.{length, replicate, drop-of-length-le}
 use lib.Seq.{drop-cons}
 use borrow.Author.Tests.{ltb-true, ltb-false}
-use Rattle.card.proofs.Cases.{by-test, both}
+use Rattle.ascii.proofs.Cases.{by-test, both}
 use Rattle.layout.specs.declared.BinTable.{BinTable}
 use Rattle.cell.specs.declared.Cell.{Cell}
 use Rattle.walk.specs.declared.TableData.{TableData}

@@ -10,7 +10,7 @@ use native.Mathlib.Omega.{arith}
 use lib.ListN.{length, getD, take, length-append}
 use lib.Dec.{eqb, leb, ltb}
 use borrow.Author.Tests.{leb-true, eqb-true, ltb-true}
-use Rattle.card.proofs.Cases.{by-test, both}
+use Rattle.ascii.proofs.Cases.{by-test, both}
 use Rattle.tform.specs.Width.{countOk}
 use Rattle.layout.specs.declared.Column.{Column}
 use Rattle.layout.specs.declared.BinTable.{BinTable}

@@ -5,19 +5,20 @@ use Prim.Native.Nat.{ℕ, zero, suc, _+_, _*_, _<_}
 use mathlib.Core.Path.{_≡_, refl, sym, subst}
 use mathlib.Core.Bool.{Bool, true, _&&_, false≢true}
 use mathlib.Core.Logic.{_≢_}
-use mathlib.Core.List.{List, [], _∷_, _++_, map}
+use mathlib.Core.List.{List, [], _∷_, _++_, map, flatMap}
 use native.Mathlib.Nat.{not-suc-le-zero, le-of-suc-le-suc}
 use native.Mathlib.Omega.{arith}
 use lib.Dec.{eqb}
 use lib.ListN.{length, getD, replicate}
 use borrow.Author.Tests.{eqb-true, eqb-false}
-use Rattle.card.specs.Text.{bytes, same, front, spaces, trim, follows, decimal, closing}
+use Rattle.ascii.specs.Text.{bytes, same, front, spaces, trim, decimal}
+use Rattle.card.specs.Ends.{follows, closing}
 use Rattle.card.specs.Record.{cardAt, isEnd, hasValue, nameOf}
 use Rattle.card.specs.Value.{digitsValue, integerValue, stringValue, valueFrom, fieldValue, valueOf}
-use Rattle.keyword.specs.Names.{range, numeral, indexed, single, usedNames, position}
+use Rattle.keyword.specs.Names.{range, numeral, indexed, single, onceRoots, onceNames, position}
 use Rattle.header.specs.Records.{records, hasEnd, beforeEnd, names, repeatedAfter}
 use Rattle.header.specs.Checks.{badLength, check1, check2, check3, checked, namesRead}
-use Rattle.card.proofs.Cases.{both, either}
+use Rattle.ascii.proofs.Cases.{both, either}
 use Rattle.tform.specs.declared.VariableArrayTy.the-variants as T
 use Rattle.tform.specs.declared.TFormType.{TFormType}
 use Rattle.tform.specs.declared.TFormType.the-variants as F
@@ -126,7 +127,7 @@ header =
     ++ replicate (24 * 80) 32
 
 pub both-accepted : (entry header area-a ≡ accepted table) × (entry header area-b ≡ accepted table)
-unfolding header padded bytes same front spaces trim follows decimal closing cardAt isEnd hasValue nameOf digitsValue integerValue stringValue valueFrom fieldValue valueOf range numeral indexed single usedNames position records hasEnd beforeEnd names repeatedAfter badLength check1 check2 check3 checked namesRead among letterWidth repeatCount elementAmong elementOf firstElement kindOf formOf rowBytes firstRefusal required limited theapCheck nine nineChecks columnCheck columnChecks columnsFrom layoutOf check9 check10 headerChecks allChecks
+unfolding header padded bytes same front spaces trim follows decimal closing cardAt isEnd hasValue nameOf digitsValue integerValue stringValue valueFrom fieldValue valueOf range numeral indexed single onceRoots onceNames flatMap position records hasEnd beforeEnd names repeatedAfter badLength check1 check2 check3 checked namesRead among letterWidth repeatCount elementAmong elementOf firstElement kindOf formOf rowBytes firstRefusal required limited theapCheck nine nineChecks columnCheck columnChecks columnsFrom layoutOf check9 check10 headerChecks allChecks
 both-accepted = (refl, refl)
 
 -- the choice of column 0, of a column that is repeated, and of one that is unknown

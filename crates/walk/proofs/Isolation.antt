@@ -7,7 +7,7 @@ use mathlib.Core.Bool.{Bool, true, false, cond}
 use mathlib.Core.List.{List, map}
 use lib.ListN.{length}
 use borrow.Author.Tests.{le-leb}
-use Rattle.header.specs.Checks as H
+use Rattle.refusal.specs.Refusal as H
 use Rattle.layout.specs.declared.BinTable.{BinTable}
 use Rattle.layout.specs.Layout.{dataSize}
 use Rattle.bintable.specs.Entry.{accepted, entry}

@@ -1,7 +1,7 @@
 -- The plain list, place by place: what a loop over the columns of a row, or over the rows from a place on, asks for.
 -- Assumes nothing.
 use Prim.Native.Nat.{ℕ, zero, suc, _+_, _-_, _≤_, _<_}
-use mathlib.Core.Path.{_≡_, refl, ap, _∙_}
+use mathlib.Core.Path.{_≡_, refl, sym, ap, _∙_}
 use mathlib.Core.Logic.{_≢_}
 use mathlib.Core.Bool.{Bool, true, false, cond}
 use mathlib.Core.List.{List, [], _++_}
@@ -10,8 +10,8 @@ use native.Mathlib.Omega.{arith}
 use lib.ListN.{length, getD, length-append, List·getD-append}
 use lib.Seq.{getD-append-add}
 use lib.Dec.{eqb, ltb}
-use borrow.Author.Tests.{ltb-true, lt-ltb, le-ltb, eq-eqb, ne-eqb}
-use Rattle.card.proofs.Cases.{by-test}
+use borrow.Author.Tests.{ltb-true, lt-ltb, le-ltb, eq-eqb, ne-eqb, ltb-false}
+use Rattle.ascii.proofs.Cases.{by-test, either}
 use Rattle.layout.specs.declared.Column.{Column}
 use Rattle.layout.specs.declared.BinTable.{BinTable}
 use Rattle.cell.specs.declared.DataValue.{DataValue}
@@ -85,6 +85,13 @@ module _ (l : BinTable) (a : List ℕ) (choice : ℕ) (heap : Bool) (r : ℕ) wh
   unfolding columnsEntries
   from-step c h = let e : l .tfields - c ≡ suc (l .tfields - suc c) = omega arith in rw e
 
+  -- a column that is not chosen has no entry
+  pub from-skip : (c : ℕ) → chosen choice c ≡ false → from c ≡ from (suc c)
+  unfolding columnEntries
+  from-skip c e =
+      either (ltb c (l .tfields)) (λ t. rw (from-step c (ltb-true c (l .tfields) t), e))
+      (λ t. let h = ltb-false c (l .tfields) t in from-end c h ∙ sym (from-end (suc c) (omega (arith, h))))
+
   pub column-length : (c : ℕ) → length (columnEntries l a choice heap r c) ≡ size c
   unfolding columnEntries
   column-length c = map-test length (chosen choice c) (entries-length (columnOf l c) a r c (fieldOf l a heap r c)) refl
@@ -132,6 +139,12 @@ module _ (rows : ℕ → List Entry) (n : ℕ) where
   pub next-skip : (r p : ℕ) → r < n → length (rows r) ≤ p → next rows n (n - r) r p ≡ next rows n (n - suc r) (suc r) 0
   unfolding next
   next-skip r p h q = let e : n - r ≡ suc (n - suc r) = omega arith in rw (e, le-ltb p (length (rows r)) q)
+
+  -- none where no row has an entry
+  pub next-none : ((r : ℕ) → length (rows r) ≡ 0) → (k r p : ℕ) → next rows n k r p ≡ noEntry
+  unfolding next
+  next-none none zero r p = refl
+  next-none none (suc k) r p = rw (none r, le-ltb p 0 (omega arith)) (next-none none k (suc r) 0)
 
   -- what the next entry is: the one at its place, which lies in a row of the table
   abbrev pub IsNext : Next → Type 0

@@ -6,7 +6,7 @@ use mathlib.Core.Bool.{Bool, true, false, cond, _&&_}
 use mathlib.Core.List.{List}
 use lib.Dec.{ltb}
 use borrow.Author.Tests.{lt-ltb}
-use Rattle.card.proofs.Cases.{both}
+use Rattle.ascii.proofs.Cases.{both}
 use Rattle.layout.specs.declared.BinTable.{BinTable}
 use Rattle.walk.specs.declared.TableData.{TableData}
 use Rattle.walk.specs.Plain.{rowEntries}

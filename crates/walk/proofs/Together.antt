@@ -5,13 +5,14 @@ use Prim.Native.Nat.{ℕ, _-_, _*_}
 use Prim.Native.String.{String}
 use mathlib.Core.Path.{_≡_, refl, ap}
 use mathlib.Core.Bool.{true}
-use mathlib.Core.List.{List, [], _∷_, _++_, map}
+use mathlib.Core.List.{List, [], _∷_, _++_, map, flatMap}
 use lib.ListN.{length, getD, replicate}
 use lib.IntN.{pos, negsuc}
-use Rattle.card.specs.Text.{bytes, same, front, spaces, trim, follows, decimal, closing}
+use Rattle.ascii.specs.Text.{bytes, same, front, spaces, trim, decimal}
+use Rattle.card.specs.Ends.{follows, closing}
 use Rattle.card.specs.Record.{cardAt, isEnd, hasValue, nameOf}
 use Rattle.card.specs.Value.{digitsValue, integerValue, stringValue, valueFrom, fieldValue, valueOf}
-use Rattle.keyword.specs.Names.{range, numeral, indexed, single, usedNames, position}
+use Rattle.keyword.specs.Names.{range, numeral, indexed, single, onceRoots, onceNames, position}
 use Rattle.header.specs.Records.{records, hasEnd, beforeEnd, names, repeatedAfter}
 use Rattle.header.specs.Checks.{badLength, check1, check2, check3, checked, namesRead}
 use Rattle.tform.specs.declared.VariableArrayTy.the-variants as T
@@ -78,7 +79,7 @@ table =
     }
 
 pub enters : entry header area ≡ accepted table
-unfolding header table padded bytes same front spaces trim follows decimal closing cardAt isEnd hasValue nameOf digitsValue integerValue stringValue valueFrom fieldValue valueOf range numeral indexed single usedNames position records hasEnd beforeEnd names repeatedAfter badLength check1 check2 check3 checked namesRead among letterWidth repeatCount elementAmong elementOf firstElement kindOf formOf rowBytes firstRefusal required limited theapCheck nine nineChecks columnCheck columnChecks columnsFrom layoutOf check9 check10 headerChecks allChecks
+unfolding header table padded bytes same front spaces trim follows decimal closing cardAt isEnd hasValue nameOf digitsValue integerValue stringValue valueFrom fieldValue valueOf range numeral indexed single onceRoots onceNames flatMap position records hasEnd beforeEnd names repeatedAfter badLength check1 check2 check3 checked namesRead among letterWidth repeatCount elementAmong elementOf firstElement kindOf formOf rowBytes firstRefusal required limited theapCheck nine nineChecks columnCheck columnChecks columnsFrom layoutOf check9 check10 headerChecks allChecks
 enters = refl
 
 -- the cursor on all columns with the heap on

@@ -25,8 +25,8 @@ SameItems a b (F.Items ty at n) = Same a b at (n * width ty)
 SameItems a b (F.Descriptor v) = Unit {0}
 SameItems a b F.OutsideHeap = Unit {0}
 
--- a and b agree in every byte of the chosen fields and, where the heap is followed, in the heap stretches that sound descriptors in those
--- fields name. Of a field that is no descriptor `arrays` says what `fields` says.
+-- the request's premise of demand 3: a and b agree in every byte of the chosen fields and, where the heap is followed, in the heap
+-- stretches that sound descriptors in those fields name. Of a field that is no descriptor `arrays` says what `fields` says.
 pub record Agree (l : BinTable) (a b : List ℕ) (choice : ℕ) (heap : Bool) : Type 0 where
   pub fields : (r c : ℕ) → r < l .naxis2 → c < l .tfields → chosen choice c ≡ true → Same a b (fieldAt l r c) (columnBytes (columnOf l c))
   pub arrays : (r c : ℕ) → r < l .naxis2 → c < l .tfields → chosen choice c ≡ true → SameItems a b (fieldOf l a heap r c)

@@ -43,14 +43,14 @@ unfoldable pub cells : ℕ → ℕ → (ℕ → DataValue) → ℕ → ℕ → L
 cells r c v i zero = []
 cells r c v i (suc n) = E.Cell (cellOf r c i (v i)) ∷ cells r c v (suc i) n
 
--- the entries of a field of row r and column c: a cell for each item, one for a descriptor that is not followed, and the one entry
--- of an array that ends past the heap, which is refusal 13
+-- the request's term "entry": a part of the plain list, counted as one. A field of row r and column c has a cell for each item, one
+-- cell for a descriptor that is not followed, and one entry, refusal 13, for an array that ends past the heap
 unfoldable pub entriesOf : Column → List ℕ → ℕ → ℕ → Field → List Entry
 entriesOf column a r c (F.Items ty at n) = cells r c (itemAt column a ty at) 0 n
 entriesOf column a r c (F.Descriptor v) = E.Cell (cellOf r c 0 v) ∷ []
 entriesOf column a r c F.OutsideHeap = E.OutsideHeap c ∷ []
 
--- column c is in the choice: bit c of it, counted from the lowest, is set
+-- the request's term "choice": some of the layout's columns, as a number. Column c is in it if bit c, counted from the lowest, is set
 unfoldable pub chosen : ℕ → ℕ → Bool
 chosen choice c = eqb (choice / 2 ^ c % 2) 1
 
@@ -64,7 +64,8 @@ module _ (l : BinTable) (a : List ℕ) (choice : ℕ) (heap : Bool) (r : ℕ) wh
   columnsEntries c zero = []
   columnsEntries c (suc n) = columnEntries c ++ columnsEntries (suc c) n
 
-  -- the plain list of row r. A row that the table lacks has no entry
+  -- the request's term "plain list", of row r: its chosen fields ascending, each field's items by index. A row that the table lacks
+  -- has no entry
   unfoldable pub rowEntries : List Entry
   rowEntries = cond (ltb r (l .naxis2)) (columnsEntries 0 (l .tfields)) []
 

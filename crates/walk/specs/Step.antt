@@ -6,11 +6,11 @@ use mathlib.Core.Bool.{Bool, true, false, cond, _&&_, _||_}
 use mathlib.Core.List.{List, [], _∷_}
 use lib.ListN.{length}
 use lib.Dec.{eqb, leb, ltb}
-use Rattle.header.specs.Checks as H
+use Rattle.refusal.specs.Refusal as H
 use Rattle.tform.specs.Width.{among}
 use Rattle.layout.specs.declared.BinTable.{BinTable}
 use Rattle.layout.specs.Layout.{dataSize, layoutOk}
-use Rattle.layout.specs.Refusal.{numberOf, placeOf, outcomeOf}
+use Rattle.refusal.specs.Refusal.{numberOf, placeOf, outcomeOf}
 use Rattle.cell.specs.declared.Cell.{Cell}
 use Rattle.walk.specs.declared.TableData.{TableData}
 use Rattle.walk.specs.declared.Entry.{Entry}
@@ -27,7 +27,7 @@ use Rattle.walk.specs.Walk.{Step, lent, State, start, Outcome, Reply, go
 unfoldable pub fits : BinTable → List ℕ → Bool
 fits l a = layoutOk l && leb (dataSize l) (length a)
 
--- a choice belongs if it is one or more of the layout's columns
+-- the request's term "belongs", of a choice: it is one or more of the layout's columns
 unfoldable pub choiceOk : BinTable → ℕ → Bool
 choiceOk l choice = ltb 0 choice && ltb choice (2 ^ l .tfields)
 
@@ -67,7 +67,7 @@ unfoldable pub choiceFrom : Selection → ℕ → ℕ → ℕ
 choiceFrom sel c zero = 0
 choiceFrom sel c (suc n) = cond (wanted sel c) 1 0 + 2 * choiceFrom sel (suc c) n
 
--- the choice of a selection: an index that the layout lacks is dropped, and a repeated one counts once
+-- the request's term "choice", made from a selection: an index that the layout lacks is dropped, and a repeated one counts once
 abbrev pub choiceOf : BinTable → Selection → ℕ
 choiceOf l sel = choiceFrom sel 0 (l .tfields)
 
@@ -113,7 +113,8 @@ unfoldable pub run : BinTable → List ℕ → TableData → List Step → List 
 run l a c [] = []
 run l a c (x ∷ xs) = let o = cursorStep l a c x in o ∷ run l a (o .cursor) xs
 
--- the plain walk from the start: it is fed the layout, data area, choice and heap setting, and each step's arguments, and nothing from a cursor
+-- the request's term "plain walk", from the start: it is fed the layout, data area, choice and heap setting, and each step's
+-- arguments, and nothing from a cursor
 abbrev pub plainWalk : BinTable → List ℕ → ℕ → Bool → List Step → List Outcome
 plainWalk l a choice heap xs = walk (rowEntries l a choice heap) (l .naxis2) start xs
 

@@ -24,7 +24,7 @@ pub data Reply : Type 0 where
   atEnd : Reply
   refused : ℕ → ℕ → Reply
 
--- what the walk keeps: the place, which is a row and the entries passed in it, and the count
+-- what the walk keeps: the request's term "place", which is a row and the entries passed in it, and the count
 pub record State : Type 0 where
   pub row : ℕ
   pub passed : ℕ
@@ -156,7 +156,7 @@ module _ (rows : ℕ → List Entry) (n : ℕ) where
   entriesLeft zero r p = []
   entriesLeft (suc k) r p = drop p (rows r) ++ entriesFrom (suc r) k
 
-  -- the outcome of each step
+  -- the request's term "plain walk": the outcome of each step, from what is kept on. `plainWalk` in Step has what it is fed
   unfoldable pub walk : State → List Step → List Outcome
   walk s [] = []
   walk s (x ∷ xs) = let o = walkStep s x in o ∷ walk (o .state) xs

@@ -1,8 +1,12 @@
-// The cursor over a table, its steps and their answers, as plain values. What a step does is in specs/, and the theorem about
-// lists of steps in proofs/Isolation; the crates `table` and `row` have the code, and row/proofs/Runs the theorem about it.
+// The cursor over a table, its steps and their answers, as plain values, and how a count grows. What a step does is in
+// specs/, and the theorem about lists of steps in proofs/Isolation; the crates `table` and `row` have the code, and
+// row/proofs/Runs the theorem about it.
+ghost use mathlib.Core.Path.{_≡_};
+ghost use Prim.Native.Nat.{_+_, min};
+ghost use Rattle.walk.specs.Walk.{stop};
 use cell::Cell;
-use layout::Check;
-use layout::Refusal;
+use refusal::Check;
+use refusal::Refusal;
 
 // Where a cursor's count stops.
 pub const COUNT_STOP: u32 = 4294967295;
@@ -42,4 +46,16 @@ pub struct Opened {
 pub struct Stepped {
     pub cursor: TableData,
     pub answer: Answer,
+}
+
+// A count with n more cells; it stays at its stop.
+pub fn counted(count: u32, n: u64) -> u32
+    ensures { λ r. ⌜ r ≡ min stop (count + n) ⌝ }
+{
+    let room = (COUNT_STOP - count) as u64;
+    if n < room {
+        count + n as u32
+    } else {
+        COUNT_STOP
+    }
 }

@@ -1,8 +1,8 @@
 -- `parse` meets its contract: the checks of the header as a whole and of the nine names, then the table.
 -- Assumes nothing.
 use mathlib.Core.Path.{_≡_, sym, _∙_, ap}
-use Rattle.header.specs.Checks.{before, checked}
-use Rattle.layout.specs.Refusal.{outcomeOf}
+use Rattle.refusal.specs.Refusal.{before, outcomeOf}
+use Rattle.header.specs.Checks.{checked}
 use Rattle.bintable.specs.Entry.{nineChecks}
 use Rattle.bintable.proofs.Bounds.{both-accepted}
 use Rattle.bintable.proofs.Entered.{entry-parts}
@@ -11,14 +11,11 @@ use Rattle.bintable.proofs.parse.Statement.{statement}
 use Rattle.bintable.proofs.parse.Tie as tie
 
 -- the checks before the columns
-whole : (c : tie.After-before2) → outcomeOf (c .before2 .result) ≡ before (checked (c .before .before .before .before .before .before .before .before .args .header .now)) (nineChecks (c .before .before .before .before .before .before .before .before .args .header .now))
-whole c = rw (c .before2 .ensures, c .before .check-nine .ensures, c .before .before .before .header-check .ensures, c .before .before .before .before .before .parse .ensures .0)
+whole : (c : tie.After-before2) → outcomeOf (c .before2 .result) ≡ before (checked (c .before .before .before .before .before .before .before .args .header .now)) (nineChecks (c .before .before .before .before .before .before .before .args .header .now))
+whole c = rw (c .before2 .ensures, c .before .check-nine .ensures, c .before .before .before .before .parse .ensures .0)
 
 parse-requires : tie.Need-parse-requires
 parse-requires c κs = search needs
-
-header-check-requires : tie.Need-header-check-requires
-header-check-requires c κs = search needs
 
 slice-aggregate-check-nine : tie.Need-slice-aggregate-check-nine
 slice-aggregate-check-nine c = search needs
@@ -43,14 +40,14 @@ slice-aggregate-parse-table c = search needs
 
 parse-table-requires : tie.Need-parse-table-requires
 parse-table-requires c κs =
-    let s = c .before .before .before .before .before .before .before .before .before .before .before in (
-      c .before .before .before .before .before .before .before .before .parse .ensures .1 .0,
+    let s = c .before .before .before .before .before .before .before .before .before .before in (
+      c .before .before .before .before .before .before .before .parse .ensures .1 .0,
       both-accepted (checked (s .args .header .now)) (nineChecks (s .args .header .now)) (sym (whole (c .before .before .before)) ∙ ap outcomeOf (c .before .enum-told .given .1)),
     )
 
 returns : tie.Need-returns
 returns c =
-    let s = c .before .before .before .before .before .before .before .before .before .before .before .before in
+    let s = c .before .before .before .before .before .before .before .before .before .before .before in
     let e = entry-parts (s .args .header .now) (s .args .area .now) in let w = whole (c .before .before .before .before) in
     (rw (e, ← w, c .before .before .check .given .1, c .refused .ensures .0), rw (e, ← w, c .before .before .check .given .1) (c .refused .ensures .1))
 
@@ -62,7 +59,6 @@ parse-spec =
     tie.close
     (tie.spec
     parse-requires
-    header-check-requires
     slice-aggregate-check-nine
     check-nine-requires
     before-requires

@@ -1,7 +1,7 @@
 -- `has_value` meets its contract: a record that is not there holds no value, as a blank one does not.
 -- Assumes nothing.
 use mathlib.Core.Path.{_∙_, ap, refl}
-use Rattle.card.specs.Text.{bytes, same}
+use Rattle.ascii.specs.Text.{bytes, same}
 use Rattle.card.specs.Record.{hasValue}
 use Rattle.card.proofs.Records.{card-or-none}
 use borrow.Author.Needs.{needs}

@@ -1,7 +1,7 @@
 -- `is_end` meets its contract: a record that is not there is no END, as a blank one is not.
 -- Assumes nothing.
 use mathlib.Core.Path.{_∙_, ap, refl}
-use Rattle.card.specs.Text.{bytes, same}
+use Rattle.ascii.specs.Text.{bytes, same}
 use Rattle.card.specs.Record.{isEnd}
 use Rattle.card.proofs.Records.{card-or-none}
 use borrow.Author.Needs.{needs}

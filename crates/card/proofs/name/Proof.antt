@@ -6,10 +6,10 @@ use mathlib.Core.List.{List, []}
 use native.Mathlib.Omega.{arith}
 use lib.ListN.{take, replicate, length-take}
 use borrow.Author.Tests.{not-true, not-false}
-use Rattle.card.specs.Text.{bytes, same, trim}
+use Rattle.ascii.specs.Text.{bytes, same, trim}
 use Rattle.card.specs.Record.{cardAt, hasValue, nameOf}
-use Rattle.card.proofs.Parts.{part-to}
-use Rattle.card.proofs.Spaces.{trimmed-le, trim-part}
+use Rattle.ascii.proofs.Parts.{part-to}
+use Rattle.ascii.proofs.Spaces.{trimmed-le, trim-part}
 use Rattle.card.proofs.Records.{card-there, card-none, card-missing, name-none, name-some}
 use borrow.Author.Needs.{needs}
 use Rattle.card.proofs.name.Statement.{statement}

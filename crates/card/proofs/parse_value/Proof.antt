@@ -6,10 +6,10 @@ use mathlib.Core.Bool.{false}
 use native.Mathlib.Omega.{arith}
 use lib.ListN.{length, drop, replicate, length-drop}
 use borrow.Author.Tests.{not-true, not-false}
-use Rattle.card.specs.Text.{bytes, same}
+use Rattle.ascii.specs.Text.{bytes, same}
 use Rattle.card.specs.Record.{cardAt, hasValue}
 use Rattle.card.specs.Value.{fieldValue}
-use Rattle.card.proofs.Parts.{part-from}
+use Rattle.ascii.proofs.Parts.{part-from}
 use Rattle.card.proofs.Records.{card-there, card-below, card-missing, card-length}
 use Rattle.card.proofs.Values.{value-unreadable, value-held}
 use borrow.Author.Needs.{needs}

@@ -5,7 +5,7 @@ use mathlib.Core.Path.{sym, ap, _∙_}
 use native.Mathlib.Omega.{arith}
 use lib.ListN.{replicate, length-replicate}
 use lib.Seq.{length-take-le}
-use Rattle.listing.proofs.Chain.{front, shown}
+use Rattle.ascii.proofs.Chain.{front, shown}
 use Rattle.cases.specs.Report.{reportText}
 use Rattle.cases.proofs.Texts.{report-room}
 use borrow.Author.Needs.{needs}

@@ -3,11 +3,11 @@
 use Prim.Native.Nat.{ℕ}
 use mathlib.Core.Path.{_≡_, sym, ap, _∙_}
 use mathlib.Core.List.{List}
-use Rattle.card.specs.Text.{bytes}
+use Rattle.ascii.specs.Text.{bytes}
 use Rattle.layout.specs.declared.BinTable.{BinTable}
-use Rattle.layout.specs.declared.Refusal.{Refusal}
-use Rattle.layout.specs.declared.Check.the-variants.{Passed, Refused}
-use Rattle.layout.specs.Refusal.{numberOf, placeOf, outcomeOf}
+use Rattle.refusal.specs.declared.Refusal.{Refusal}
+use Rattle.refusal.specs.declared.Check.the-variants.{Passed, Refused}
+use Rattle.refusal.specs.Refusal.{numberOf, placeOf, outcomeOf}
 use Rattle.layout.specs.Names.{findName}
 use Rattle.bintable.specs.Entry.{allChecks, entry, layoutIn}
 use Rattle.walk.specs.Walk.{readCell, Reply, refused}

@@ -12,13 +12,17 @@ parse-requires c κs = search needs
 open-requires : tie.Need-open-requires
 open-requires c κs = search needs
 
+blank-cell-requires : tie.Need-blank-cell-requires
+blank-cell-requires c κs = search needs
+
 row-cell-requires : tie.Need-row-cell-requires
 row-cell-requires c κs = search needs
 
 returns : tie.Need-returns
 returns c =
-    let p = c .before .before .before .before in
-    rw (ap (λ (o : Opening). o .cursor) (c .before .before .«open» .ensures), p .parse .ensures .1) at (c .row-cell .ensures)
+    let p = c .before .before .before .before .before in
+    let o = ap (λ (o : Opening). o .cursor) (c .before .before .before .«open» .ensures) in
+    rw (o, p .parse .ensures .1, c .before .blank-cell .ensures) at (c .row-cell .ensures)
 
 pub of-first-row-spec : {M : Type 1} → statement M
-of-first-row-spec = tie.close (tie.spec parse-requires open-requires row-cell-requires returns)
+of-first-row-spec = tie.close (tie.spec parse-requires open-requires blank-cell-requires row-cell-requires returns)

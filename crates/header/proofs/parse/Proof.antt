@@ -5,10 +5,13 @@ use mathlib.Core.Bool.{true}
 use mathlib.Core.List.{List}
 use Prim.Native.Nat.{ℕ}
 use native.Mathlib.Omega.{arith}
-use lib.ListN.{replicate}
+use lib.ListN.{length, replicate}
+use Rattle.keyword.specs.Names.{slotNames}
 use Rattle.header.specs.declared.Header.{Header}
-use Rattle.header.specs.declared.HeaderCheck.the-variants.{BadLength}
-use Rattle.header.specs.Checks.{outcome, badLength, checked, recordOf, secondOf, indexBy}
+use Rattle.refusal.specs.declared.Refusal.the-variants.{BadLength}
+use Rattle.refusal.specs.declared.Check.the-variants.{Refused}
+use Rattle.refusal.specs.Refusal.{outcomeOf}
+use Rattle.header.specs.Checks.{badLength, checked, recordOf, secondOf, indexBy}
 use Rattle.header.proofs.Indexed.{empty-first, empty-second}
 use Rattle.header.proofs.Lengths.{length-none, length-over, length-part, length-good, bad-check, bad-read}
 use borrow.Author.Needs.{needs}
@@ -16,9 +19,9 @@ use Rattle.header.proofs.parse.Statement.{statement}
 use Rattle.header.proofs.parse.Tie as tie
 
 -- a bad length is refused beside the empty index
-refuse : (h : List ℕ) (r : Header) → (r .check ≡ BadLength) × ((r .first ≡ replicate 2007 0) × (r .second ≡ replicate 2007 0)) → badLength h ≡ true
-    → (outcome (r .check) ≡ checked h) × ((r .first ≡ indexBy (recordOf h)) × (r .second ≡ indexBy (secondOf h)))
-refuse h r e b = (ap outcome (e .0) ∙ bad-check h b, (e .1 .0 ∙ empty-first h (bad-read h b), e .1 .1 ∙ empty-second h (bad-read h b)))
+refuse : (h : List ℕ) (r : Header) → (r .check ≡ Refused BadLength) × ((r .first ≡ replicate (length slotNames) 0) × (r .second ≡ replicate (length slotNames) 0)) → badLength h ≡ true
+    → (outcomeOf (r .check) ≡ checked h) × ((r .first ≡ indexBy (recordOf h)) × (r .second ≡ indexBy (secondOf h)))
+refuse h r e b = (ap outcomeOf (e .0) ∙ bad-check h b, (e .1 .0 ∙ empty-first h (bad-read h b), e .1 .1 ∙ empty-second h (bad-read h b)))
 
 refused-requires : tie.Need-refused-requires
 refused-requires c κs = search needs

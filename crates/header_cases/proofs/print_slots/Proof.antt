@@ -6,10 +6,10 @@ use Rattle.header_cases.proofs.print_slots.Statement.{statement}
 use Rattle.header_cases.proofs.print_slots.Tie as tie
 
 abbrev Inv-loop : tie.InvT-loop
-Inv-loop header first second slot₀ slot = Unit {0}
+Inv-loop header first second slot₀ end slot = Unit {0}
 
 abbrev μ-loop : tie.MeasureT-loop
-μ-loop header first second slot₀ slot = 2007 - slot
+μ-loop header first second slot₀ end slot = end - slot
 
 loop-holds : tie.Need-loop-holds Inv-loop μ-loop
 loop-holds c = tt

@@ -1,31 +1,29 @@
--- `indexed_slot` meets its contract. A place among the numerals is below 999, so the sum fits.
+-- `indexed_slot` meets its contract: there are few roots, so the sums fit.
 -- Assumes nothing.
-use mathlib.Core.Path.{sym, ap, _∙_}
 use native.Mathlib.Omega.{arith}
-use Rattle.keyword.specs.Names.{further}
-use Rattle.keyword.proofs.Numerals.{index-below}
-use borrow.Author.Needs.{needs}
+use borrow.Author.Tests.{lt-ltb, le-ltb}
+use Rattle.keyword.specs.Names.{single, onceRoots, otherRoots}
 use Rattle.keyword.proofs.indexed_slot.Statement.{statement}
 use Rattle.keyword.proofs.indexed_slot.Tie as tie
 
-keyword-index-requires : tie.Need-keyword-index-requires
-keyword-index-requires c κs = search needs
+mul-t4 : tie.Need-mul-t4
+unfolding onceRoots otherRoots
+mul-t4 c = omega arith
 
-enum-known-k : tie.Need-enum-known-k
-enum-known-k c = search needs
+add-t5 : tie.Need-add-t5
+unfolding onceRoots otherRoots
+add-t5 c = omega arith
 
 add-t6 : tie.Need-add-t6
-add-t6 c = omega (arith, index-below _ _ (sym (c .before .before .before .keyword-index .ensures) ∙ c .before .k .given .1))
-
-enum-told : tie.Need-enum-told
-enum-told c = search needs
+unfolding onceRoots otherRoots
+add-t6 c = omega arith
 
 returns : tie.Need-returns
-returns c = ap (further _) (sym (c .before .k .given .1) ∙ c .before .before .before .keyword-index .ensures)
+unfolding single
+returns c = rw (lt-ltb _ _ (c .if1 .taken))
 
 returns-2 : tie.Need-returns-2
-returns-2 c = ap (further _) (sym (c .enum-told .given .1) ∙ c .before .before .keyword-index .ensures)
+returns-2 c = rw (le-ltb _ _ (c .if1 .left))
 
 pub indexed-slot-spec : {M : Type 1} → statement M
-indexed-slot-spec =
-    tie.close (tie.spec keyword-index-requires enum-known-k add-t6 enum-told returns returns-2)
+indexed-slot-spec = tie.close (tie.spec mul-t4 add-t5 add-t6 returns returns-2)

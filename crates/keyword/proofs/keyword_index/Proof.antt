@@ -11,8 +11,8 @@ use borrow.Author.Needs.{needs}
 use borrow.Author.Tests.{ltb-true, ltb-false}
 use lib.Dec.{lit<}
 use lib.ListN.{drop, getD}
-use Rattle.keyword.specs.declared.Found.the-variants.{At}
-use Rattle.card.specs.Text.{decimal}
+use Rattle.ascii.specs.declared.Found.the-variants.{At}
+use Rattle.ascii.specs.Text.{decimal}
 use Rattle.keyword.proofs.Numerals.{Digit, Numeral, value-next, value-ends, numeral-says, index-of, index-none}
 use Rattle.keyword.proofs.keyword_index.Statement.{statement}
 use Rattle.keyword.proofs.keyword_index.Tie as tie

@@ -3,7 +3,7 @@
 use mathlib.Core.Path.{sym, _∙_}
 use lib.Dec.{lit<}
 use Rattle.keyword.specs.Names.{single}
-use Rattle.card.specs.Text.{bytes}
+use Rattle.ascii.specs.Text.{bytes}
 use Rattle.keyword.proofs.Position.{Passed, passed-none, passed-more, passed-here, passed-all}
 use borrow.Author.Needs.{needs}
 use Rattle.keyword.proofs.single_slot.Statement.{statement}

@@ -4,7 +4,7 @@ use mathlib.Core.Path.{_∙_, ap}
 use Prim.Native.Nat.{_-_, _+_, _≤_}
 use native.Mathlib.Omega.{arith}
 use lib.ListN.{length, length-drop}
-use Rattle.card.proofs.Parts.{part-from}
+use Rattle.ascii.proofs.Parts.{part-from}
 use borrow.Author.Needs.{needs}
 use Rattle.layout_cases.proofs.names_len.Statement.{statement}
 use Rattle.layout_cases.proofs.names_len.Tie as tie

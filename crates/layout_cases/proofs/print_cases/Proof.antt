@@ -4,7 +4,7 @@ use mathlib.Core.Path.{_∙_, ap, sym}
 use Prim.Native.Nat.{_-_, _+_, _≤_, _<_}
 use native.Mathlib.Omega.{arith}
 use lib.ListN.{length, length-drop}
-use Rattle.card.proofs.Parts.{part-from}
+use Rattle.ascii.proofs.Parts.{part-from}
 use native.Mathlib.Numerals.{lt-of-le-of-ne}
 use borrow.Author.Needs.{needs}
 use Rattle.layout_cases.proofs.print_cases.Statement.{statement}

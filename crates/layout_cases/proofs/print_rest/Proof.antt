@@ -5,7 +5,7 @@ use Prim.Native.Nat.{_-_, _+_, _≤_}
 use native.Mathlib.Omega.{arith}
 use lib.ListN.{length, take, drop, length-drop}
 use lib.Seq.{length-take-le}
-use Rattle.card.proofs.Parts.{part-from}
+use Rattle.ascii.proofs.Parts.{part-from}
 use borrow.Author.Needs.{needs}
 use Rattle.layout_cases.proofs.print_rest.Statement.{statement}
 use Rattle.layout_cases.proofs.print_rest.Tie as tie

@@ -2,9 +2,9 @@
 -- Assumes nothing.
 use mathlib.Core.Path.{sym, ap}
 use borrow.Author.Needs.{needs}
-use Rattle.card.specs.Text.{bytes}
+use Rattle.ascii.specs.Text.{bytes}
 use Rattle.listing.specs.Lines.{line, endLine, rowLine, seekLine, atEndLine, badLine, lineText}
-use Rattle.listing.proofs.Chain.{shown}
+use Rattle.ascii.proofs.Chain.{shown}
 use Rattle.listing.proofs.put_line.Statement.{statement}
 use Rattle.listing.proofs.put_line.Tie as tie
 

@@ -6,7 +6,7 @@ use mathlib.Core.List.{List}
 use lib.ListN.{length}
 use native.Mathlib.Omega.{arith}
 use borrow.Author.Needs.{needs}
-use Rattle.listing.specs.Buffer.{putIn}
+use Rattle.ascii.specs.Buffer.{putIn}
 use Rattle.output.specs.declared.State.{State}
 use Rattle.output.specs.State.{left}
 use Rattle.output.specs.Page.{pageText, pageRest, Whole}

@@ -2,7 +2,7 @@
 -- Assumes nothing.
 use borrow.Author.Needs.{needs}
 use Rattle.header.specs.Records.{headerLen}
-use Rattle.card.proofs.Parts.{part-from}
+use Rattle.ascii.proofs.Parts.{part-from}
 use Rattle.output.proofs.Parted.{header-inside, header-length}
 use Rattle.output.proofs.parse_file.Statement.{statement}
 use Rattle.output.proofs.parse_file.Tie as tie

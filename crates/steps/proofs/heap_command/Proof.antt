@@ -1,7 +1,7 @@
 -- `heap_command` meets its contract, by its two tests.
 -- Assumes nothing.
 use mathlib.Core.Path.{sym, _∙_}
-use Rattle.card.specs.Text.{bytes}
+use Rattle.ascii.specs.Text.{bytes}
 use borrow.Author.Needs.{needs}
 use Rattle.steps.proofs.heap_command.Statement.{statement}
 use Rattle.steps.proofs.heap_command.Tie as tie

@@ -6,7 +6,7 @@ use mathlib.Core.List.{[]}
 use native.Mathlib.Omega.{arith}
 use lib.ListN.{length, drop, drop-of-length-le}
 use lib.Seq.{take-nil}
-use Rattle.card.proofs.Parts.{part-from}
+use Rattle.ascii.proofs.Parts.{part-from}
 use Rattle.steps.specs.Split.{before}
 use Rattle.steps.proofs.Lines.{line-inside}
 use borrow.Author.Needs.{needs}

@@ -2,8 +2,8 @@
 -- Assumes nothing.
 use mathlib.Core.Path.{_≡_, sym, _∙_}
 use mathlib.Core.Bool.{true}
-use Rattle.card.specs.Text.{bytes}
-use Rattle.card.proofs.Parts.{part-from}
+use Rattle.ascii.specs.Text.{bytes}
+use Rattle.ascii.proofs.Parts.{part-from}
 use Rattle.steps.specs.Line.{begins, says}
 use Rattle.steps.proofs.Says.{row-inside, seek-inside}
 use borrow.Author.Needs.{needs}

@@ -8,7 +8,7 @@ use native.Mathlib.Numerals.{add-one}
 use lib.ListN.{length, length-map, length-take}
 use borrow.Author.Tests.{not-false, eqb-true, leb-true}
 use borrow.Author.Needs.{needs}
-use Rattle.card.proofs.Cases.{both}
+use Rattle.ascii.proofs.Cases.{both}
 use Rattle.tform.specs.Width.{countOk}
 use Rattle.layout.specs.Layout.{naxis2Limit, dataLimit, columnsOf, mainSize, dataSize}
 use Rattle.walk.specs.Plain.{columnOf, fieldOf, columnSize}

@@ -5,7 +5,7 @@ use Prim.Native.Nat.{_-_, _+_, _≤_, _<_}
 use native.Mathlib.Omega.{arith}
 use native.Mathlib.Numerals.{lt-of-le-of-ne}
 use lib.ListN.{length, length-drop}
-use Rattle.card.proofs.Parts.{part-from}
+use Rattle.ascii.proofs.Parts.{part-from}
 use borrow.Author.Needs.{needs}
 use Rattle.table_cases.proofs.print_cases.Statement.{statement}
 use Rattle.table_cases.proofs.print_cases.Tie as tie

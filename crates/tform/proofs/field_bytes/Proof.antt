@@ -4,7 +4,7 @@ use Prim.Native.Nat.{_*_}
 use mathlib.Core.Path.{_≡_}
 use native.Mathlib.Omega.{arith}
 use borrow.Author.Needs.{needs}
-use Rattle.card.specs.Text.{bytes}
+use Rattle.ascii.specs.Text.{bytes}
 use Rattle.tform.specs.Width.{among, letterWidth, fieldBytes}
 use Rattle.tform.proofs.Widths.{field-bytes-bound}
 use Rattle.tform.proofs.field_bytes.Statement.{statement}

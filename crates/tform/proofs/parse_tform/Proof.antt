@@ -4,9 +4,9 @@ use mathlib.Core.Path.{_≡_}
 use Prim.Native.Nat.{_≤_}
 use native.Mathlib.Omega.{arith}
 use lib.ListN.{length}
-use Rattle.card.specs.Text.{digit}
-use Rattle.card.proofs.Front.{front-le}
-use Rattle.card.proofs.Parts.{part-from}
+use Rattle.ascii.specs.Text.{digit}
+use Rattle.ascii.proofs.Front.{front-le}
+use Rattle.ascii.proofs.Parts.{part-from}
 use Rattle.tform.proofs.Count.{cappedCount, form-capped}
 use borrow.Author.Needs.{needs}
 use Rattle.tform.proofs.parse_tform.Statement.{statement}

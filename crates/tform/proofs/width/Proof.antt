@@ -1,6 +1,6 @@
 -- `width` meets its contract: one case for each type.
 -- Assumes nothing.
-use Rattle.card.specs.Text.{bytes}
+use Rattle.ascii.specs.Text.{bytes}
 use Rattle.tform.specs.Width.{among, letterWidth}
 use borrow.Author.Needs.{needs}
 use Rattle.tform.proofs.width.Statement.{statement}

@@ -2,7 +2,7 @@
 -- Assumes nothing.
 use mathlib.Core.Path.{_≡_, _∙_}
 use native.Mathlib.Omega.{arith}
-use Rattle.layout.specs.Refusal.{outcomeOf}
+use Rattle.refusal.specs.Refusal.{outcomeOf}
 use Rattle.bintable.specs.Entry.{check10, allChecks}
 use Rattle.bintable.proofs.Entered.{layout-size, entry-parts}
 use Prim.Native.Nat.{_*_, _≤_}

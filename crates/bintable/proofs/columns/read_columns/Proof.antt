@@ -3,7 +3,7 @@
 use mathlib.Core.Path.{_≡_, _∙_, ap}
 use Prim.Native.Nat.{_+_, _-_, _≤_}
 use native.Mathlib.Omega.{arith}
-use Rattle.layout.specs.Refusal.{outcomeOf}
+use Rattle.refusal.specs.Refusal.{outcomeOf}
 use Rattle.layout.specs.Layout.{rowBytes, columnBytes}
 use Rattle.bintable.specs.Entry.{columnChecks}
 use Rattle.bintable.proofs.Filled.{columnsTo, next, filled, checks-none, checks-next, filled-none, bytes-none, bytes-next, filled-next, bytes-bound}

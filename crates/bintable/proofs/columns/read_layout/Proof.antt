@@ -3,7 +3,7 @@
 use mathlib.Core.Path.{_≡_, _∙_, ap}
 use Prim.Native.Nat.{ℕ, _*_}
 use native.Mathlib.Omega.{arith}
-use Rattle.header.specs.Checks.{before}
+use Rattle.refusal.specs.Refusal.{before}
 use Rattle.bintable.specs.Checks.{sizeFor, recordFor}
 use Rattle.bintable.specs.Entry.{columnChecks, layoutOf}
 use Rattle.bintable.proofs.Bounds.{main-limit}

@@ -1,8 +1,7 @@
 -- `check_nine` meets its contract.
 -- Assumes nothing.
 use mathlib.Core.Path.{_≡_, sym, _∙_, ap}
-use Rattle.header.specs.Checks.{before}
-use Rattle.layout.specs.Refusal.{outcomeOf}
+use Rattle.refusal.specs.Refusal.{before, outcomeOf}
 use Rattle.bintable.specs.Checks.{firstRefusal}
 use Rattle.bintable.proofs.Bounds.{both-accepted}
 use Rattle.bintable.proofs.Nine.{kinds, sizes, nine-parts}

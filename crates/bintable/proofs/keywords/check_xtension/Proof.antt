@@ -1,6 +1,6 @@
 -- `check_xtension` meets its contract.
 -- Assumes nothing.
-use Rattle.card.specs.Text.{bytes}
+use Rattle.ascii.specs.Text.{bytes}
 use Rattle.bintable.specs.Entry.{required}
 use borrow.Author.Needs.{needs}
 use Rattle.bintable.proofs.keywords.check_xtension.Statement.{statement}

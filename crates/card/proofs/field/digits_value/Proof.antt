@@ -2,14 +2,15 @@
 -- Assumes nothing.
 use lib.ListN.{take, drop}
 use Rattle.card.specs.declared.Value.the-variants.{Integer}
-use Rattle.card.specs.Text.{decimal, front, digit, follows}
+use Rattle.ascii.specs.Text.{decimal, front, digit}
+use Rattle.card.specs.Ends.{follows}
 use Rattle.card.specs.Value.{signed}
 use Prim.Native.Nat.{ℕ}
 use mathlib.Core.Path.{_≡_, sym, _∙_, ap}
 use native.Mathlib.Omega.{arith}
 use borrow.Author.Tests.{not-true, not-false}
-use Rattle.card.proofs.Front.{front-le}
-use Rattle.card.proofs.Parts.{part-from}
+use Rattle.ascii.proofs.Front.{front-le}
+use Rattle.ascii.proofs.Parts.{part-from}
 use Rattle.card.proofs.Values.{no-digit, digits-over, digits-before, digits-say}
 use borrow.Author.Needs.{needs}
 use Rattle.card.proofs.field.digits_value.Statement.{statement}

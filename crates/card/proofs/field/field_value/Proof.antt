@@ -4,10 +4,10 @@ use lib.ListN.{length-drop, length, drop}
 use Prim.Native.Nat.{ℕ, _+_, _≤_}
 use mathlib.Core.Path.{_∙_, ap}
 use native.Mathlib.Omega.{arith}
-use Rattle.card.specs.Text.{space}
+use Rattle.ascii.specs.Text.{space}
 use Rattle.card.specs.Value.{valueFrom, fieldValue}
-use Rattle.card.proofs.Front.{front-le}
-use Rattle.card.proofs.Parts.{part-from}
+use Rattle.ascii.proofs.Front.{front-le}
+use Rattle.ascii.proofs.Parts.{part-from}
 use borrow.Author.Needs.{needs}
 use Rattle.card.proofs.field.field_value.Statement.{statement}
 use Rattle.card.proofs.field.field_value.Tie as tie

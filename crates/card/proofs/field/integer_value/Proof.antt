@@ -3,7 +3,7 @@
 use mathlib.Core.Bool.{true, false}
 use mathlib.Core.Path.{sym, _∙_, ap}
 use Rattle.card.specs.Value.{digitsValue}
-use Rattle.card.proofs.Parts.{part-from}
+use Rattle.ascii.proofs.Parts.{part-from}
 use Rattle.card.proofs.Values.{integer-none, integer-minus, integer-plus, integer-bare}
 use borrow.Author.Needs.{needs}
 use Rattle.card.proofs.field.integer_value.Statement.{statement}

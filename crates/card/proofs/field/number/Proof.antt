@@ -4,9 +4,9 @@ use Prim.Native.Nat.{_-_, _^_, _≤_, _<_}
 use mathlib.Core.Path.{_≡_}
 use native.Mathlib.Omega.{arith}
 use lib.ListN.{length, take, getD}
-use Rattle.card.specs.Text.{decimal, digit}
-use Rattle.card.proofs.Front.{front-passes, front-le}
-use Rattle.card.proofs.Decimal.{decimal-next, ten-next, ten-le, digit-range}
+use Rattle.ascii.specs.Text.{decimal, digit}
+use Rattle.ascii.proofs.Front.{front-passes, front-le}
+use Rattle.ascii.proofs.Decimal.{decimal-next, ten-next, ten-le, digit-range}
 use borrow.Author.Needs.{needs}
 use Rattle.card.proofs.field.number.Statement.{statement}
 use Rattle.card.proofs.field.number.Tie as tie

@@ -7,9 +7,10 @@ use native.Mathlib.Omega.{arith}
 use lib.ListN.{length, drop, take}
 use borrow.Author.Tests.{not-true, not-false}
 use Rattle.card.specs.declared.Value.the-variants.{String}
-use Rattle.card.specs.Text.{closing, follows, trim}
+use Rattle.ascii.specs.Text.{trim}
+use Rattle.card.specs.Ends.{closing, follows}
 use Rattle.card.proofs.Closing.{closing-le}
-use Rattle.card.proofs.Parts.{part-from, part-to}
+use Rattle.ascii.proofs.Parts.{part-from, part-to}
 use Rattle.card.proofs.Values.{string-open, string-before, string-says}
 use borrow.Author.Needs.{needs}
 use Rattle.card.proofs.field.string_value.Statement.{statement}

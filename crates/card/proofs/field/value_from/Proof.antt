@@ -3,7 +3,7 @@
 use mathlib.Core.Path.{sym, _∙_, ap}
 use Prim.Native.Nat.{_+_}
 use Rattle.card.specs.Value.{stringValue}
-use Rattle.card.proofs.Parts.{part-from}
+use Rattle.ascii.proofs.Parts.{part-from}
 use Rattle.card.proofs.Values.{value-none, value-string, value-integer}
 use borrow.Author.Needs.{needs}
 use Rattle.card.proofs.field.value_from.Statement.{statement}

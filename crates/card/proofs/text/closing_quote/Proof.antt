@@ -1,12 +1,12 @@
 -- `closing_quote` meets its contract. The loop's invariant: the place in the whole is that in the rest and the bytes passed.
 -- Assumes nothing.
-use Rattle.card.proofs.Scan.{goes-on, stops}
+use Rattle.ascii.proofs.Scan.{goes-on, stops}
 use Prim.Native.Nat.{_-_, _+_}
 use mathlib.Core.Path.{_≡_, sym, _∙_}
 use native.Mathlib.Omega.{arith}
 use lib.ListN.{length, drop}
 use borrow.Author.Tests.{eq-eqb, ne-eqb, not-true, not-false}
-use Rattle.card.specs.Text.{closing}
+use Rattle.card.specs.Ends.{closing}
 use Rattle.card.proofs.Closing.{closing-other, closing-single, closing-double, closing-end}
 use borrow.Author.Needs.{needs}
 use Rattle.card.proofs.text.closing_quote.Statement.{statement}

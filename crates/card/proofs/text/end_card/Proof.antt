@@ -1,9 +1,9 @@
 -- `end_card` meets its contract: the length, the three letters, then spaces.
 -- Assumes nothing.
 use mathlib.Core.Path.{sym, _∙_, ap}
-use Rattle.card.specs.Text.{spaces}
+use Rattle.ascii.specs.Text.{spaces}
 use Rattle.card.proofs.Records.{end-length, end-differs, end-letters}
-use Rattle.card.proofs.Parts.{part-from}
+use Rattle.ascii.proofs.Parts.{part-from}
 use borrow.Author.Needs.{needs}
 use Rattle.card.proofs.text.end_card.Statement.{statement}
 use Rattle.card.proofs.text.end_card.Tie as tie

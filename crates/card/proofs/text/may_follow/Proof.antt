@@ -2,9 +2,9 @@
 -- Assumes nothing.
 use mathlib.Core.Path.{sym, _∙_}
 use native.Mathlib.Omega.{arith}
-use Rattle.card.specs.Text.{space}
-use Rattle.card.proofs.Front.{front-le}
-use Rattle.card.proofs.Spaces.{follows-none, follows-at}
+use Rattle.ascii.specs.Text.{space}
+use Rattle.ascii.proofs.Front.{front-le}
+use Rattle.card.proofs.Closing.{follows-none, follows-at}
 use borrow.Author.Needs.{needs}
 use Rattle.card.proofs.text.may_follow.Statement.{statement}
 use Rattle.card.proofs.text.may_follow.Tie as tie

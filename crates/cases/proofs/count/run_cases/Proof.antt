@@ -9,7 +9,7 @@ use native.Mathlib.Omega.{arith}
 use lib.ListN.{length, drop, length-drop}
 use borrow.Author.Needs.{needs}
 use borrow.Author.Tests.{leb-true}
-use Rattle.card.proofs.Parts.{part-from}
+use Rattle.ascii.proofs.Parts.{part-from}
 use Rattle.cases.specs.declared.count.Tally.{Tally}
 use Rattle.cases.specs.Cases.{caseEnd, caseOf, answer, none, ended, tallied}
 use Rattle.cases.proofs.Counting.{IsWhole, is-whole, is-cut, tallied-ends, tallied-turn, counted-cases, counted-differ}

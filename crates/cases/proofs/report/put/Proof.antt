@@ -1,48 +1,19 @@
 -- `put` meets its contract: there is room.
 -- Assumes nothing.
 use native.Mathlib.Omega.{arith}
-use Rattle.listing.proofs.Chain.{Put}
-use Rattle.cases.proofs.Room.{written-all, not-full}
+use Rattle.ascii.proofs.Chain.{fitted}
 use borrow.Author.Needs.{needs}
 use Rattle.cases.proofs.report.put.Statement.{statement}
 use Rattle.cases.proofs.report.put.Tie as tie
 
-put-text-requires : tie.Need-put-text-requires
-put-text-requires c κs = search needs
-
-enum-known-written : tie.Need-enum-known-written
-enum-known-written c = search needs
-
-enum-told : tie.Need-enum-told
-enum-told c = search needs
+put-requires : tie.Need-put-requires
+put-requires c κs = search needs
 
 same-length : tie.Need-same-length
 same-length c = search needs
 
 returns : tie.Need-returns
-returns c =
-    let p = c .before .before .before .before .before in
-    let a = p .before .before .before .before .args in
-    written-all (a .out .now) (a .at) (a .text .now) (p .put-text .result) (p .put-text .last .0) (omega arith) (p .put-text .ensures) (c .before .written .given .0 .0) (c .before .written .given .1)
-
-same-length-2 : tie.Need-same-length-2
-same-length-2 c = search needs
-
-returns-2 : tie.Need-returns-2
-returns-2 c =
-    let p = c .before .before .before .before in
-    let a = p .before .before .before .before .args in
-    not-full (a .out .now) (a .at) (a .text .now) (p .put-text .result) (p .put-text .last .0) (omega arith) (p .put-text .ensures)
-    (Put (a .out .now) (a .at) (a .text .now) (a .at) (p .put-text .last .0)) (c .enum-told .given .1)
+returns c = fitted _ _ _ (omega arith) (c .before .before .put .ensures)
 
 pub put-spec : {M : Type 1} → statement M
-put-spec =
-    tie.close
-    (tie.spec
-    put-text-requires
-    enum-known-written
-    enum-told
-    same-length
-    returns
-    same-length-2
-    returns-2)
+put-spec = tie.close (tie.spec put-requires same-length returns)

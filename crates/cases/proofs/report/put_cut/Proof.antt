@@ -3,12 +3,11 @@
 use Prim.Native.Nat.{_+_}
 use mathlib.Core.List.{_++_}
 use native.Mathlib.Omega.{arith}
-use Rattle.card.specs.Text.{bytes}
-use Rattle.listing.specs.Text.{decimalText}
-use Rattle.listing.proofs.Lengths.{decimal-length}
+use Rattle.ascii.specs.Text.{bytes}
+use Rattle.ascii.specs.Number.{decimalText}
+use Rattle.ascii.proofs.Lengths.{decimal-length}
 use borrow.Author.Tests.{not-true, not-false}
-use Rattle.listing.proofs.Chain.{joined, retold}
-use Rattle.cases.proofs.Room.{nothing-put}
+use Rattle.ascii.proofs.Chain.{joined, retold, nothing-put}
 use Rattle.cases.proofs.Texts.{cut-none, cut-told}
 use borrow.Author.Needs.{needs}
 use Rattle.cases.proofs.report.put_cut.Statement.{statement}

@@ -2,10 +2,10 @@
 -- Assumes nothing.
 use mathlib.Core.List.{_++_}
 use native.Mathlib.Omega.{arith}
-use Rattle.card.specs.Text.{bytes}
-use Rattle.listing.specs.Text.{decimalText}
-use Rattle.listing.proofs.Lengths.{decimal-length}
-use Rattle.listing.proofs.Chain.{joined, retold}
+use Rattle.ascii.specs.Text.{bytes}
+use Rattle.ascii.specs.Number.{decimalText}
+use Rattle.ascii.proofs.Lengths.{decimal-length}
+use Rattle.ascii.proofs.Chain.{joined, retold}
 use Rattle.cases.proofs.Texts.{differ-none, differ-one, differ-several}
 use borrow.Author.Needs.{needs}
 use Rattle.cases.proofs.report.put_differ.Statement.{statement}

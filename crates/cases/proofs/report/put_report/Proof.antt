@@ -2,7 +2,7 @@
 -- Assumes nothing.
 use mathlib.Core.List.{[], _∷_, _++_}
 use native.Mathlib.Omega.{arith}
-use Rattle.listing.proofs.Chain.{joined}
+use Rattle.ascii.proofs.Chain.{joined}
 use Rattle.cases.specs.Report.{countsText, differText, cutText, reportText}
 use Rattle.cases.proofs.Texts.{counts-room, differ-room, cut-room}
 use borrow.Author.Needs.{needs}

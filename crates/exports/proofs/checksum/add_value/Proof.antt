@@ -2,7 +2,9 @@
 -- Assumes nothing.
 use mir.Syntax.{w16, w32, w64}
 use mir.ValLaws.{toZ-ofZ}
+use native.Mathlib.Omega.{arith}
 use borrow.Author.Needs.{needs}
+use Rattle.exports.proofs.Signs.{widened, own-bits}
 use Rattle.exports.proofs.Sums.{one-word, two-words, words-then}
 use Rattle.exports.proofs.checksum.add_value.Statement.{statement}
 use Rattle.exports.proofs.checksum.add_value.Tie as tie
@@ -40,8 +42,11 @@ add-word-requires-3 c κs = search needs
 enum-known-value-4 : tie.Need-enum-known-value-4
 enum-known-value-4 c = search needs
 
-bits16-requires : tie.Need-bits16-requires
-bits16-requires c κs = search needs
+cast-bits : tie.Need-cast-bits
+cast-bits c = widened w16 (c .before .value4 .given .0 .0) (record { sfits = c .known-told4 .given .0 .1 }) (omega arith)
+
+bits-requires : tie.Need-bits-requires
+bits-requires c κs = search needs
 
 add-word-requires-4 : tie.Need-add-word-requires-4
 add-word-requires-4 c κs = search needs
@@ -49,8 +54,11 @@ add-word-requires-4 c κs = search needs
 enum-known-value-5 : tie.Need-enum-known-value-5
 enum-known-value-5 c = search needs
 
-bits32-requires : tie.Need-bits32-requires
-bits32-requires c κs = search needs
+cast-bits-2 : tie.Need-cast-bits-2
+cast-bits-2 c = widened w32 (c .before .value5 .given .0 .0) (record { sfits = c .known-told5 .given .0 .1 }) (omega arith)
+
+bits-requires-2 : tie.Need-bits-requires-2
+bits-requires-2 c κs = search needs
 
 add-word-requires-5 : tie.Need-add-word-requires-5
 add-word-requires-5 c κs = search needs
@@ -58,8 +66,8 @@ add-word-requires-5 c κs = search needs
 enum-known-value-6 : tie.Need-enum-known-value-6
 enum-known-value-6 c = search needs
 
-bits64-requires : tie.Need-bits64-requires
-bits64-requires c κs = search needs
+bits-requires-3 : tie.Need-bits-requires-3
+bits-requires-3 c κs = search needs
 
 add-two-requires : tie.Need-add-two-requires
 add-two-requires c κs = search needs
@@ -146,13 +154,13 @@ returns-3 : tie.Need-returns-3
 returns-3 c = rw (c .before .before .value3 .given .1, c .add-word3 .ensures) (one-word _ _)
 
 returns-4 : tie.Need-returns-4
-returns-4 c = rw (c .before .before .before .value4 .given .1, c .add-word4 .ensures, c .before .bits16 .ensures, toZ-ofZ w16 (c .before .before .before .value4 .given .0 .0) (record { sfits = c .before .before .known-told4 .given .0 .1 })) (one-word _ _)
+returns-4 c = rw (c .before .before .before .value4 .given .1, c .add-word4 .ensures, c .before .bits .ensures, own-bits w16 (c .before .before .before .value4 .given .0 .0) (record { sfits = c .before .before .known-told4 .given .0 .1 }) (omega arith)) (one-word _ _)
 
 returns-5 : tie.Need-returns-5
-returns-5 c = rw (c .before .before .before .value5 .given .1, c .add-word5 .ensures, c .before .bits32 .ensures, toZ-ofZ w32 (c .before .before .before .value5 .given .0 .0) (record { sfits = c .before .before .known-told5 .given .0 .1 })) (one-word _ _)
+returns-5 c = rw (c .before .before .before .value5 .given .1, c .add-word5 .ensures, c .before .bits2 .ensures, own-bits w32 (c .before .before .before .value5 .given .0 .0) (record { sfits = c .before .before .known-told5 .given .0 .1 }) (omega arith)) (one-word _ _)
 
 returns-6 : tie.Need-returns-6
-returns-6 c = rw (c .before .before .before .value6 .given .1, c .add-two .ensures, c .before .bits64 .ensures, toZ-ofZ w64 (c .before .before .before .value6 .given .0 .0) (record { sfits = c .before .before .known-told6 .given .0 .1 }))
+returns-6 c = rw (c .before .before .before .value6 .given .1, c .add-two .ensures, c .before .bits3 .ensures, toZ-ofZ w64 (c .before .before .before .value6 .given .0 .0) (record { sfits = c .before .before .known-told6 .given .0 .1 }))
 
 returns-7 : tie.Need-returns-7
 returns-7 c = rw (c .before .before .value7 .given .1, c .add-word6 .ensures) (one-word _ _)
@@ -190,13 +198,15 @@ add-value-spec =
     cast-add-word-3
     add-word-requires-3
     enum-known-value-4
-    bits16-requires
+    cast-bits
+    bits-requires
     add-word-requires-4
     enum-known-value-5
-    bits32-requires
+    cast-bits-2
+    bits-requires-2
     add-word-requires-5
     enum-known-value-6
-    bits64-requires
+    bits-requires-3
     add-two-requires
     enum-known-value-7
     cast-add-word-4

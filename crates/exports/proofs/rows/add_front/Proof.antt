@@ -54,7 +54,7 @@ use Rattle.cell.proofs.Cell as T
 use Rattle.cell.proofs.Cell.Laws as T′
 use Rattle.row.proofs.Values.{cell-val}
 use Rattle.exports.specs.Checksum.{addCell, addCells}
-use Rattle.exports.specs.RowSums.{blank}
+use Rattle.cell.specs.Item.{blankCell}
 use Rattle.exports.proofs.Sums.{front-none, front-more, cells-fit}
 use Rattle.exports.proofs.checksum.add_cell as add-cell
 use Rattle.exports.proofs.checksum.add_cell.Symbol as add-cell-def
@@ -110,7 +110,7 @@ module _ {M : Type 1} (𝓤 : URA M) (H : Heap 𝓤) (A : Atoms 𝓤) (W : Given
 
   -- element i, and the sum after i of them
   abbrev elem : ℕ → Cell
-  elem i = getD ys i blank
+  elem i = getD ys i blankCell
 
   abbrev total : ℕ → ℕ
   total i = addCells sum (take i ys)
@@ -171,14 +171,14 @@ module _ {M : Type 1} (𝓤 : URA M) (H : Heap 𝓤) (A : Atoms 𝓤) (W : Given
           stays ! (load ! (from ! (stop !)) (look ! 3 refl)) $
           -- the cell's place, and the cell
           assigns ! (bin ! (load ! (from ! (stop !)) (look ! 1 refl)) (lit ! tt) (record { fits = bytes-fit })) (from ! (stop !)) (init ! 4 refl (tt, record { fits = bytes-fit })) $ assigns ! (bin ! (load ! (from ! (fld ! refl (stop !))) (look-in ! 7 (sub ! 0 refl (whole !)))) (load ! (from ! (stop !)) (look ! 4 refl)) tt) (from ! (stop !)) (init ! 5 refl (tt, tt)) $
-          rewrite ! 5 (λ (p : ℕ). ‵ (fat fullShare tyPtr l₉ 0 (vptr b p))) (sym (place-is 64 o i)) refl $ elem-out ! R (Is R) (shows 𝓤 H A R) vals-of (LL.tells T.the-type T′.the-laws) q′ ys i blank b o inside (λ g. assigns ! (of-opd ! (load ! (from ! (hop ! (look ! 7 refl) (stop !))) (look-raw ! 0 refl))) (from ! (stop !)) (init ! 8 refl (LL.lawful T.the-type T′.the-laws 𝓤 H A W .typed (elem i) _ g .0)) $
-          assigns ! (of-opd ! (load ! (from ! (stop !)) (look ! 8 refl))) (from ! (stop !)) (init ! 4 refl (LL.lawful T.the-type T′.the-laws 𝓤 H A W .typed (elem i) _ g .0)) $ elem-back ! R q′ ys i blank (cell-val (elem i) ∷ []) b o inside $
+          rewrite ! 5 (λ (p : ℕ). ‵ (fat fullShare tyPtr l₉ 0 (vptr b p))) (sym (place-is 64 o i)) refl $ elem-out ! R (Is R) (shows 𝓤 H A R) vals-of (LL.tells T.the-type T′.the-laws) q′ ys i blankCell b o inside (λ g. assigns ! (of-opd ! (load ! (from ! (hop ! (look ! 7 refl) (stop !))) (look-raw ! 0 refl))) (from ! (stop !)) (init ! 8 refl (LL.lawful T.the-type T′.the-laws 𝓤 H A W .typed (elem i) _ g .0)) $
+          assigns ! (of-opd ! (load ! (from ! (stop !)) (look ! 8 refl))) (from ! (stop !)) (init ! 4 refl (LL.lawful T.the-type T′.the-laws 𝓤 H A W .typed (elem i) _ g .0)) $ elem-back ! R q′ ys i blankCell (cell-val (elem i) ∷ []) b o inside $
           -- `add_cell` is called
           owned ! R (Is R) (LL.makes T.the-type T′.the-plain 𝓤 H A) (elem i) _ g $ use1 W (raw (AddC 𝓤 H A mem run .pre (to-add i))) (goes-add i) $
           -- [pre; row; _5; _6; _7; _8; _9; _10; _1; _2; _3; _4; _0; obor; S]
           calls-at ! (fmOf 𝓤 H (W .laws) 𝓣) (AddC 𝓤 H A mem run) known (to-add i) (and-then ! (load ! (from ! (stop !)) (look ! 11 refl)) (and-then ! (load ! (from ! (stop !)) (look ! 3 refl)) (no-more !))) (λ w. use1 W (later (some (λ (r : ℕ). (‵ ftrue ⊛ ‵ (u32 .own r (w ∷ []))) ⊛ raw (ensured 𝓤 H A add-cell.ended (add-cell.clauses 𝓤 H A mem run) tt (total i, (elem i, tt)) tt r)))) (id⊢ 𝓤 _) $
           await ! tt $ pick ! (λ r. split ! $ move ! (1 ∷ []) $ use1 W (raw (fact 𝓤 (r ≡ addCell (total i) (elem i)))) (said i r) $ heard ! (r ≡ addCell (total i) (elem i)) (λ e. split ! $ drop ! $ facts ! u32 (Is u32) (shows 𝓤 H A u32) r (w ∷ []) (λ is.
-          land ! (from ! (stop !)) (store ! 10 refl (uint-lawful 𝓤 H A W w32 .typed r _ is .0)) $ rewrite ! 10 (λ (v : Val). ‵ (fat fullShare (tyInt w32) l₄ 0 v)) (ap only (is .0) ∙ ap (vint w32) (e ∙ sym (front-more sum ys i blank inside))) refl $
+          land ! (from ! (stop !)) (store ! 10 refl (uint-lawful 𝓤 H A W w32 .typed r _ is .0)) $ rewrite ! 10 (λ (v : Val). ‵ (fat fullShare (tyInt w32) l₄ 0 v)) (ap only (is .0) ∙ ap (vint w32) (e ∙ sym (front-more sum ys i blankCell inside))) refl $
           assigns-last ! (bin ! (load ! (from ! (stop !)) (look ! 1 refl)) (lit ! tt) (record { fits = next-fits })) (from ! (stop !)) (store ! 1 refl (tt, record { fits = next-fits })) $ rewrite ! 1 (λ (j : ℕ). ‵ (fat fullShare (tyInt w64) l₅ 0 (vint w64 j))) (add-one i) refl $
           forget ! 2 refl $ forget ! 3 refl $ forget ! 4 refl $ forget ! 5 refl $ forget ! 6 refl $ keep ! (0 ∷ 1 ∷ 2 ∷ 3 ∷ 4 ∷ 5 ∷ 6 ∷ 7 ∷ 8 ∷ 9 ∷ 10 ∷ 11 ∷ 12 ∷ 13 ∷ 14 ∷ 15 ∷ 16 ∷ 17 ∷ 18 ∷ 19 ∷ 20 ∷ 21 ∷ 22 ∷ 23 ∷ 24 ∷ []) $ by ! k)))))
         where

@@ -52,7 +52,7 @@ use Rattle.walk.specs.declared.Stepped.{Stepped}
 use Rattle.walk.proofs.Stepped as S
 use Rattle.walk.proofs.Stepped.Laws as S′
 use Rattle.walk.specs.Walk.{readRow}
-use Rattle.walk.specs.Step.{Result, cursorStep, resultOf}
+use Rattle.walk.specs.Step.{Result, cursorStep, replyOf, resultOf}
 use Rattle.row.proofs.Values.{layout-val, cursor-val, stepped-val, spelled}
 use Rattle.row.proofs.Again.{LentAgain, lends-again, comes-back}
 use Rattle.row.proofs.Lent.{says-both}
@@ -62,7 +62,7 @@ use Rattle.row.proofs.read_row.Symbol.{name as #read-row}
 use Rattle.row.proofs.read_row.Met as read-row-thm
 use Rattle.exports.specs.declared.rows.RowSum.{RowSum}
 use Rattle.exports.specs.Checksum.{addCells}
-use Rattle.exports.specs.RowSums.{storedCells, isRow, rowSum, rowSumAt}
+use Rattle.exports.specs.Loops.{storedCells, rowSum, rowSumAt}
 use Rattle.exports.proofs.Sums.{cells-fit}
 use Rattle.exports.proofs.Shared.{LentShared, lends-shared, shared-back}
 use Rattle.exports.proofs.RowReads.{row-stored}
@@ -186,7 +186,7 @@ module _ {M : Type 1} (𝓤 : URA M) (H : Heap 𝓤) (A : Atoms 𝓤) (W : Given
   total-fits zs r = cells-fit (st .sum) (take (n r) zs) sum-fits
 
   abbrev result : List Cell → Stepped → RowSum
-  result zs r = rowSum (total zs r) (r .cursor) (isRow (r .answer))
+  result zs r = rowSum (total zs r) (r .cursor) (replyOf (r .answer))
 
   -- ---- `read_row`
 

@@ -7,7 +7,7 @@ use mathlib.Core.List.{List, _∷_}
 use Prim.Native.Nat.{ℕ, _+_, _-_, _≤_, _<_}
 use native.Mathlib.Omega.{arith}
 use lib.ListN.{length, drop, getD}
-use Rattle.card.specs.Text.{same}
+use Rattle.ascii.specs.Text.{same}
 use Rattle.layout.specs.Names.{undoubled, sameName}
 use borrow.Author.Needs.{needs}
 use Rattle.layout.proofs.ttype.same_name.Statement.{statement}

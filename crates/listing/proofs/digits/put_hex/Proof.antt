@@ -8,7 +8,7 @@ use lib.ListN.{length, take, length-set, length-take}
 use lib.Seq.{slice, slice-empty}
 use borrow.Author.Needs.{needs}
 use Rattle.listing.specs.Text.{hexText}
-use Rattle.listing.specs.Buffer.{putIn}
+use Rattle.ascii.proofs.Chain.{fitted, tried-as}
 use Rattle.listing.proofs.Lengths.{hex-length}
 use Rattle.listing.proofs.Turns.{hex-turn}
 use Rattle.listing.proofs.digits.put_hex.Statement.{statement}
@@ -65,7 +65,7 @@ whole c =
     set-down (l .i) (c .before .before .before .before .before .args .width) (l .rest) (l .digits) (omega arith) ∙ l .inv .2
 
 put-requires : tie.Need-put-requires Inv-loop μ-loop
-put-requires c κs = simp length-take (omega arith)
+put-requires c κs = search needs
 
 same-length : tie.Need-same-length Inv-loop μ-loop
 same-length c = search needs
@@ -74,10 +74,9 @@ returns : tie.Need-returns Inv-loop μ-loop
 returns c =
     let a = c .before .before .before .before .before .before .before .before .args in
     let e = whole (c .before .before .before) in
-    let put = c .before .before .put in (
-      put .ensures .0 ∙ ap (λ (t : List ℕ). a .at + length t) e ∙ ap (λ (k : ℕ). a .at + k) (hex-length (a .width) (a .n)),
-      put .ensures .1 ∙ ap (putIn (a .out .now) (a .at)) e,
-    )
+    let n = hex-length (a .width) (a .n) in
+    let put = fitted (a .out .now) (a .at) (hexText (a .width) (a .n)) (omega (arith, n)) (tried-as (a .out .now) (a .at) e (c .before .before .put .ensures)) in
+    (put .0 ∙ ap (λ (k : ℕ). a .at + k) n, put .1)
 
 pub put-hex-spec : {M : Type 1} → statement M
 put-hex-spec =

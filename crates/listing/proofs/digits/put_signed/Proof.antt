@@ -9,20 +9,17 @@ use lib.ListN.{length, set, length-set}
 use mir.Syntax.{w64}
 use mir.ValLaws.{toZ-ofZ}
 use borrow.Author.Needs.{needs}
-use Rattle.listing.specs.Text.{decimalText, signedText}
-use Rattle.listing.specs.Buffer.{putIn}
-use Rattle.listing.proofs.Lengths.{decimal-length, put-cons}
+use Rattle.ascii.specs.Number.{decimalText}
+use Rattle.listing.specs.Text.{signedText}
+use Rattle.ascii.proofs.Lengths.{decimal-length, put-cons}
+use Rattle.ascii.proofs.Chain.{Put, number-fitted}
 use Rattle.listing.proofs.Signs.{with-sign, without-sign}
 use Rattle.listing.proofs.digits.put_signed.Statement.{statement}
 use Rattle.listing.proofs.digits.put_signed.Tie as tie
 
--- what is asked of the result and of the buffer
-abbrev Puts : List ℕ → ℕ → List ℕ → ℕ → List ℕ → Type 0
-Puts o at t r l = (r ≡ at + length t) × (l ≡ putIn o at t)
-
 -- the digits of a magnitude m, with the byte b stored before them
 signed : (o : List ℕ) (at : ℕ) (z : ℤ) (b m r : ℕ) (l : List ℕ) → at + 21 ≤ length o → signedText z ≡ b ∷ decimalText (natAbs z) → m ≡ natAbs z
-    → Puts (set o at b) (at + 1) (decimalText m) r l → Puts o at (signedText z) r l
+    → Put (set o at b) (at + 1) (decimalText m) r l → Put o at (signedText z) r l
 signed o at z b m r l h e f p =
     let t : signedText z ≡ b ∷ decimalText m = e ∙ ap (λ (k : ℕ). b ∷ decimalText k) (sym f) in
     let n : at + 1 + length (decimalText m) ≡ at + suc (length (decimalText m)) = omega arith in
@@ -38,7 +35,7 @@ magnitude-requires : tie.Need-magnitude-requires
 magnitude-requires c κs = search needs
 
 put-decimal-requires : tie.Need-put-decimal-requires
-put-decimal-requires c κs = simp length-set (omega arith)
+put-decimal-requires c κs = search needs
 
 magnitude-requires-2 : tie.Need-magnitude-requires-2
 magnitude-requires-2 c κs = search needs
@@ -56,7 +53,7 @@ returns c =
     let put = c .before .before .put-decimal in
     signed (a .out .now) (a .at) (a .n) _ (c .before .before .before .magnitude .result) (put .result) (put .last .0) (s .pre)
     (with-sign w64 (a .n) (s .fits .n) (c .before .before .before .before .before .if1 .taken)) (c .before .before .before .magnitude .ensures ∙ ap natAbs (toZ-ofZ w64 (a .n) (s .fits .n)))
-    (put .ensures)
+    (number-fitted _ _ _ (simp length-set (omega (arith, s .pre))) (put .ensures))
 
 same-length-2 : tie.Need-same-length-2
 same-length-2 c = search needs
@@ -68,7 +65,7 @@ returns-2 c =
     let put = c .before .before .put-decimal2 in
     let e : signedText (a .n) ≡ decimalText (c .before .before .before .magnitude2 .result) =
     without-sign w64 (a .n) (s .fits .n) (c .before .before .before .before .before .if1 .left) ∙ ap decimalText (sym (c .before .before .before .magnitude2 .ensures ∙ ap natAbs (toZ-ofZ w64 (a .n) (s .fits .n)))) in
-    rw e (put .ensures)
+    rw e (number-fitted (a .out .now) (a .at) _ (omega (arith, s .pre)) (put .ensures))
 
 pub put-signed-spec : {M : Type 1} → statement M
 put-signed-spec =

@@ -5,11 +5,12 @@ use mathlib.Core.List.{[], _∷_, _++_, append-assoc}
 use native.Mathlib.Omega.{arith}
 use borrow.Author.Needs.{needs}
 use lib.Seq.{length-take-le}
-use Rattle.card.specs.Text.{bytes}
+use Rattle.ascii.specs.Text.{bytes}
 use Rattle.cell.specs.declared.Cell.{Cell}
-use Rattle.listing.specs.Text.{decimalText, valueText}
+use Rattle.ascii.specs.Number.{decimalText}
+use Rattle.listing.specs.Text.{valueText}
 use Rattle.listing.specs.Lines.{line, cellLine}
-use Rattle.listing.proofs.Chain.{joined, front, shown, number-room, count-room}
+use Rattle.ascii.proofs.Chain.{joined, front, shown, number-room, count-room}
 use Rattle.listing.proofs.Short.{value-length}
 use Rattle.listing.proofs.lines.cell_line.Statement.{statement}
 use Rattle.listing.proofs.lines.cell_line.Tie as tie

@@ -6,15 +6,15 @@ use mathlib.Core.List.{List, [], _∷_}
 use borrow.Author.Needs.{needs}
 use lib.ListN.{length}
 use borrow.Author.Tests.{eq-eqb, ne-eqb}
-use Rattle.card.specs.Text.{bytes}
+use Rattle.ascii.specs.Text.{bytes}
 use Rattle.tform.specs.Width.{formLetter}
 use Rattle.layout.specs.declared.Column.{Column}
 use Rattle.layout.specs.declared.BinTable.{BinTable}
 use Rattle.layout.specs.Names.{columnName}
 use Rattle.walk.specs.Plain.{columnOf}
-use Rattle.listing.specs.Text.{decimalText}
+use Rattle.ascii.specs.Number.{decimalText}
 use Rattle.listing.specs.Lines.{line, shownName, columnLine}
-use Rattle.listing.proofs.Chain.{shown}
+use Rattle.ascii.proofs.Chain.{shown}
 use Rattle.listing.proofs.lines.column_line.Statement.{statement}
 use Rattle.listing.proofs.lines.column_line.Tie as tie
 

@@ -6,12 +6,12 @@ use mathlib.Core.List.{List, [], _∷_, _++_, append-assoc}
 use native.Mathlib.Omega.{arith}
 use borrow.Author.Needs.{needs}
 use lib.Seq.{length-take-le}
-use Rattle.card.specs.Text.{bytes}
+use Rattle.ascii.specs.Text.{bytes}
 use Rattle.tform.specs.Width.{formLetter}
 use Rattle.layout.specs.declared.Column.{Column}
-use Rattle.listing.specs.Text.{decimalText}
+use Rattle.ascii.specs.Number.{decimalText}
 use Rattle.listing.specs.Lines.{line}
-use Rattle.listing.proofs.Chain.{joined, front, shown, number-room, count-room}
+use Rattle.ascii.proofs.Chain.{joined, front, shown, number-room, count-room}
 use Rattle.listing.proofs.lines.named_line.Statement.{statement}
 use Rattle.listing.proofs.lines.named_line.Tie as tie
 

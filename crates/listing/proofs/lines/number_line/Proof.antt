@@ -5,7 +5,7 @@ use borrow.Author.Needs.{needs}
 use lib.Seq.{length-take-le}
 use mathlib.Core.Path.{sym}
 use Rattle.listing.specs.Lines.{line}
-use Rattle.listing.proofs.Chain.{front, shown, count-room}
+use Rattle.ascii.proofs.Chain.{front, shown, count-room}
 use Rattle.listing.proofs.lines.number_line.Statement.{statement}
 use Rattle.listing.proofs.lines.number_line.Tie as tie
 

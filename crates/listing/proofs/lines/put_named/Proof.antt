@@ -4,7 +4,7 @@ use mathlib.Core.List.{[], _∷_, _++_}
 use native.Mathlib.Omega.{arith}
 use borrow.Author.Needs.{needs}
 use lib.ListN.{length-append}
-use Rattle.listing.proofs.Chain.{joined, no-room, room}
+use Rattle.ascii.proofs.Chain.{fitted, joined, no-room, room}
 use Rattle.listing.proofs.lines.put_named.Statement.{statement}
 use Rattle.listing.proofs.lines.put_named.Tie as tie
 
@@ -30,7 +30,10 @@ put-requires : tie.Need-put-requires
 put-requires c κs = search needs
 
 put-word-requires : tie.Need-put-word-requires
-put-word-requires c κs = search needs
+put-word-requires c κs =
+    let p = c .before .before .before in
+    let a = p .before .before .before .before .before .before .before .before .args in
+    omega (arith, fitted (a .out .now) (a .at) (a .start .now) (omega arith) (p .put .ensures) .0)
 
 same-length : tie.Need-same-length
 same-length c = search needs
@@ -39,9 +42,10 @@ returns-4 : tie.Need-returns-4
 returns-4 c =
     let a = c .before .before .before .before .before .before .before .before .before .before .before .before .before .before .args in
     let t = a .name .now ++ (10 ∷ []) in
+    let start = fitted (a .out .now) (a .at) (a .start .now) (omega arith) (c .before .before .before .before .before .before .put .ensures) in
     let h = simp length-append at (c .before .before .put-word .ensures .0) in
     room (a .out .now) (a .at) (a .start .now ++ t) (simp length-append (omega arith))
-    (joined (a .out .now) (a .at) (a .start .now) t (omega arith) (c .before .before .before .before .before .before .put .ensures) (c .before .before .put-word .ensures))
+    (joined (a .out .now) (a .at) (a .start .now) t (omega (arith, start .0)) start (c .before .before .put-word .ensures))
 
 pub put-named-spec : {M : Type 1} → statement M
 put-named-spec =

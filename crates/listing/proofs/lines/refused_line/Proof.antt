@@ -6,11 +6,11 @@ use mathlib.Core.List.{[], _∷_, _++_, append-assoc}
 use native.Mathlib.Omega.{arith}
 use borrow.Author.Needs.{needs}
 use lib.Seq.{length-take-le}
-use Rattle.card.specs.Text.{bytes}
-use Rattle.layout.specs.Refusal.{numberOf}
-use Rattle.listing.specs.Text.{decimalText}
+use Rattle.ascii.specs.Text.{bytes}
+use Rattle.refusal.specs.Refusal.{numberOf}
+use Rattle.ascii.specs.Number.{decimalText}
 use Rattle.listing.specs.Lines.{line, refusedLine}
-use Rattle.listing.proofs.Chain.{joined, front, shown, number-room, count-room}
+use Rattle.ascii.proofs.Chain.{joined, front, shown, number-room, count-room}
 use Rattle.listing.proofs.lines.refused_line.Statement.{statement}
 use Rattle.listing.proofs.lines.refused_line.Tie as tie
 

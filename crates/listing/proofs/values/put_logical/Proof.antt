@@ -4,10 +4,11 @@ use mathlib.Core.Path.{sym, ap}
 use mathlib.Core.List.{[], _∷_}
 use native.Mathlib.Omega.{arith}
 use borrow.Author.Needs.{needs}
-use Rattle.card.specs.Text.{bytes}
-use Rattle.listing.specs.Text.{decimalText, logicalText}
-use Rattle.listing.proofs.Lengths.{decimal-length}
-use Rattle.listing.proofs.Chain.{joined, retold}
+use Rattle.ascii.specs.Text.{bytes}
+use Rattle.ascii.specs.Number.{decimalText}
+use Rattle.listing.specs.Text.{logicalText}
+use Rattle.ascii.proofs.Lengths.{decimal-length}
+use Rattle.ascii.proofs.Chain.{fitted, number-fitted, joined, retold}
 use Rattle.listing.proofs.values.put_logical.Statement.{statement}
 use Rattle.listing.proofs.values.put_logical.Tie as tie
 
@@ -57,7 +58,7 @@ returns : tie.Need-returns
 unfolding bytes
 returns c =
     let a = c .before .before .before .before .before .before .before .before .args in
-    retold (a .out .now) (a .at) (ap logicalText (sym (c .before .before .before .before .before .enum-told .given .1))) (c .before .before .put .ensures)
+    retold (a .out .now) (a .at) (ap logicalText (sym (c .before .before .before .before .before .enum-told .given .1))) (fitted _ _ _ (omega arith) (c .before .before .put .ensures))
 
 same-length-2 : tie.Need-same-length-2
 same-length-2 c = search needs
@@ -66,7 +67,7 @@ returns-2 : tie.Need-returns-2
 unfolding bytes
 returns-2 c =
     let a = c .before .before .before .before .before .before .before .before .args in
-    retold (a .out .now) (a .at) (ap logicalText (sym (c .before .before .before .before .before .enum-told2 .given .1))) (c .before .before .put2 .ensures)
+    retold (a .out .now) (a .at) (ap logicalText (sym (c .before .before .before .before .before .enum-told2 .given .1))) (fitted _ _ _ (omega arith) (c .before .before .put2 .ensures))
 
 same-length-3 : tie.Need-same-length-3
 same-length-3 c = search needs
@@ -75,7 +76,7 @@ returns-3 : tie.Need-returns-3
 unfolding bytes
 returns-3 c =
     let a = c .before .before .before .before .before .before .before .before .args in
-    retold (a .out .now) (a .at) (ap logicalText (sym (c .before .before .before .before .before .enum-told3 .given .1))) (c .before .before .put3 .ensures)
+    retold (a .out .now) (a .at) (ap logicalText (sym (c .before .before .before .before .before .enum-told3 .given .1))) (fitted _ _ _ (omega arith) (c .before .before .put3 .ensures))
 
 same-length-4 : tie.Need-same-length-4
 same-length-4 c = search needs
@@ -84,9 +85,9 @@ returns-4 : tie.Need-returns-4
 returns-4 c =
     let a = c .before .before .before .before .before .before .before .before .before .before .before .before .args in
     let v = c .before .before .before .before .before .before .before .before .before .logical .given in
-    let digits = decimalText (v .0 .0) in
+    let digits = number-fitted _ _ (v .0 .0) (omega arith) (c .before .before .put-decimal .ensures) in
     retold (a .out .now) (a .at) (ap logicalText (sym (v .1)))
-    (joined (a .out .now) (a .at) (63 ∷ []) digits (omega (arith, decimal-length (v .0 .0))) (c .before .before .before .before .before .before .put-byte .ensures) (c .before .before .put-decimal .ensures))
+    (joined (a .out .now) (a .at) (63 ∷ []) (decimalText (v .0 .0)) (omega (arith, digits .0, decimal-length (v .0 .0))) (c .before .before .before .before .before .before .put-byte .ensures) digits)
 
 pub put-logical-spec : {M : Type 1} → statement M
 put-logical-spec =

@@ -3,9 +3,9 @@
 use mathlib.Core.List.{[], _∷_, _++_}
 use native.Mathlib.Omega.{arith}
 use borrow.Author.Needs.{needs}
-use Rattle.listing.specs.Text.{decimalText}
-use Rattle.listing.proofs.Lengths.{decimal-length}
-use Rattle.listing.proofs.Chain.{joined, retold, spaced, number-room}
+use Rattle.ascii.specs.Number.{decimalText}
+use Rattle.ascii.proofs.Lengths.{decimal-length}
+use Rattle.ascii.proofs.Chain.{number-fitted, joined, retold, spaced, number-room}
 use Rattle.listing.proofs.values.put_two_decimals.Statement.{statement}
 use Rattle.listing.proofs.values.put_two_decimals.Tie as tie
 
@@ -13,7 +13,7 @@ put-number-requires : tie.Need-put-number-requires
 put-number-requires c κs = search needs
 
 put-decimal-requires : tie.Need-put-decimal-requires
-put-decimal-requires c κs = omega (arith, number-room (c .before .before .before .before .before .before .args .one) 32)
+put-decimal-requires c κs = search needs
 
 same-length : tie.Need-same-length
 same-length c = search needs
@@ -21,10 +21,10 @@ same-length c = search needs
 returns : tie.Need-returns
 returns c =
     let a = c .before .before .before .before .before .before .before .before .before .args in
-    let two = decimalText (a .two) in
-    retold (a .out .now) (a .at) (spaced (decimalText (a .one)) two 32)
-    (joined (a .out .now) (a .at) (decimalText (a .one) ++ (32 ∷ [])) two (omega (arith, number-room (a .one) 32, decimal-length (a .two)))
-    (c .before .before .before .before .before .before .put-number .ensures) (c .before .before .put-decimal .ensures))
+    let two = number-fitted _ _ (a .two) (omega (arith, number-room (a .one) 32)) (c .before .before .put-decimal .ensures) in
+    retold (a .out .now) (a .at) (spaced (decimalText (a .one)) (decimalText (a .two)) 32)
+    (joined (a .out .now) (a .at) (decimalText (a .one) ++ (32 ∷ [])) (decimalText (a .two)) (omega (arith, two .0, number-room (a .one) 32, decimal-length (a .two)))
+    (c .before .before .before .before .before .before .put-number .ensures) two)
 
 pub put-two-decimals-spec : {M : Type 1} → statement M
 put-two-decimals-spec =

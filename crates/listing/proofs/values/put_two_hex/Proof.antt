@@ -4,7 +4,8 @@ use mathlib.Core.List.{[], _∷_}
 use native.Mathlib.Omega.{arith}
 use borrow.Author.Needs.{needs}
 use Rattle.listing.specs.Text.{hexText}
-use Rattle.listing.proofs.Chain.{joined, hexed}
+use Rattle.ascii.proofs.Chain.{joined}
+use Rattle.listing.proofs.Lengths.{hexed}
 use Rattle.listing.proofs.values.put_two_hex.Statement.{statement}
 use Rattle.listing.proofs.values.put_two_hex.Tie as tie
 

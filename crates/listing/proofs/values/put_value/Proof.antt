@@ -1,6 +1,7 @@
 -- `put_value` meets its contract: one case for each value. A wider type has room for each signed number.
 -- Assumes nothing.
 use mathlib.Core.Path.{_≡_, sym, ap, subst, _∙_}
+use native.Mathlib.Omega.{arith}
 use borrow.Author.Needs.{needs}
 use lib.Dec.{leb, T}
 use lib.IntN.{ℤ}
@@ -9,7 +10,8 @@ use mir.Val.{SFits, toZ, ofZ, hbits}
 use mir.Facts.{sfits-widen}
 use mir.ValLaws.{toZ-ofZ}
 use Rattle.listing.specs.Text.{signedText, valueText}
-use Rattle.listing.proofs.Chain.{retold, hexed}
+use Rattle.ascii.proofs.Chain.{number-fitted, retold}
+use Rattle.listing.proofs.Lengths.{hexed}
 use Rattle.listing.proofs.values.put_value.Statement.{statement}
 use Rattle.listing.proofs.values.put_value.Tie as tie
 
@@ -139,13 +141,13 @@ same-length-2 : tie.Need-same-length-2
 same-length-2 c = search needs
 
 returns-2 : tie.Need-returns-2
-returns-2 c = let a = c .before .before .before .before .before .before .before .before .args in retold (a .out .now) (a .at) (ap valueText (sym (c .before .before .before .before .before .value2 .given .1))) (c .before .before .put-decimal .ensures)
+returns-2 c = let a = c .before .before .before .before .before .before .before .before .args in retold (a .out .now) (a .at) (ap valueText (sym (c .before .before .before .before .before .value2 .given .1))) (number-fitted _ _ _ (omega arith) (c .before .before .put-decimal .ensures))
 
 same-length-3 : tie.Need-same-length-3
 same-length-3 c = search needs
 
 returns-3 : tie.Need-returns-3
-returns-3 c = let a = c .before .before .before .before .before .before .before .before .args in retold (a .out .now) (a .at) (ap valueText (sym (c .before .before .before .before .before .value3 .given .1))) (c .before .before .put-decimal2 .ensures)
+returns-3 c = let a = c .before .before .before .before .before .before .before .before .args in retold (a .out .now) (a .at) (ap valueText (sym (c .before .before .before .before .before .value3 .given .1))) (number-fitted _ _ _ (omega arith) (c .before .before .put-decimal2 .ensures))
 
 same-length-4 : tie.Need-same-length-4
 same-length-4 c = search needs
@@ -178,7 +180,7 @@ same-length-7 : tie.Need-same-length-7
 same-length-7 c = search needs
 
 returns-7 : tie.Need-returns-7
-returns-7 c = let a = c .before .before .before .before .before .before .before .before .args in retold (a .out .now) (a .at) (ap valueText (sym (c .before .before .before .before .before .value7 .given .1))) (c .before .before .put-decimal3 .ensures)
+returns-7 c = let a = c .before .before .before .before .before .before .before .before .args in retold (a .out .now) (a .at) (ap valueText (sym (c .before .before .before .before .before .value7 .given .1))) (number-fitted _ _ _ (omega arith) (c .before .before .put-decimal3 .ensures))
 
 same-length-8 : tie.Need-same-length-8
 same-length-8 c = search needs

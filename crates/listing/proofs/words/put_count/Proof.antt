@@ -4,8 +4,8 @@ use mathlib.Core.List.{[], _∷_, _++_}
 use native.Mathlib.Omega.{arith}
 use lib.ListN.{length-append}
 use borrow.Author.Needs.{needs}
-use Rattle.listing.specs.Text.{decimalText}
-use Rattle.listing.proofs.Chain.{joined, retold, spaced, number-room}
+use Rattle.ascii.specs.Number.{decimalText}
+use Rattle.ascii.proofs.Chain.{joined, retold, spaced, number-room}
 use Rattle.listing.proofs.words.put_count.Statement.{statement}
 use Rattle.listing.proofs.words.put_count.Tie as tie
 

@@ -8,8 +8,8 @@ use Rattle.row.proofs.fill.entry.Tie as tie
 enum-told : tie.Need-enum-told
 enum-told c = search needs
 
-item-requires : tie.Need-item-requires
-item-requires c κs = search needs
+read-item-requires : tie.Need-read-item-requires
+read-item-requires c κs = search needs
 
 enum-told-2 : tie.Need-enum-told-2
 enum-told-2 c = search needs
@@ -33,7 +33,7 @@ enum-told-4 : tie.Need-enum-told-4
 enum-told-4 c = search needs
 
 returns : tie.Need-returns
-returns c = rw (c .before .enum-told .given .1) (c .item .ensures)
+returns c = rw (c .before .enum-told .given .1) (c .read-item .ensures)
 
 returns-2 : tie.Need-returns-2
 returns-2 c = rw (c .before .before .enum-told2 .given .1, c .before .u32-at .ensures, c .u32-at2 .ensures, add-zero)
@@ -49,7 +49,7 @@ entry-spec =
     tie.close
     (tie.spec
     enum-told
-    item-requires
+    read-item-requires
     enum-told-2
     u32-at-requires
     u32-at-requires-2

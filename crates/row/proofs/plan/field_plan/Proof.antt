@@ -1,14 +1,10 @@
--- `field_plan` meets its contract: one case for each form, and a column that is not chosen.
+-- `field_plan` meets its contract: one case for each form.
 -- Assumes nothing.
-use mathlib.Core.Path.{sym, _∙_}
 use borrow.Author.Needs.{needs}
 use Rattle.cell.specs.Field.{field}
 use Rattle.row.specs.Plan.{fieldPlan}
 use Rattle.row.proofs.plan.field_plan.Statement.{statement}
 use Rattle.row.proofs.plan.field_plan.Tie as tie
-
-chosen-requires : tie.Need-chosen-requires
-chosen-requires c κs = search needs
 
 add-at : tie.Need-add-at
 add-at c = search needs
@@ -29,7 +25,7 @@ returns : tie.Need-returns
 unfolding fieldPlan field
 returns c =
     rw (
-      sym (c .before .before .before .before .before .before .before .before .before .chosen .ensures) ∙ c .before .before .before .before .before .before .before .before .if1 .taken,
+      c .before .before .before .before .before .before .before .before .before .pre .0,
       c .field-from .ensures,
       c .before .item-count .ensures,
       c .before .before .before .before .form .given .1,
@@ -48,7 +44,7 @@ returns-2 : tie.Need-returns-2
 unfolding fieldPlan
 returns-2 c =
     rw (
-      sym (c .before .before .before .before .before .before .before .chosen .ensures) ∙ c .before .before .before .before .before .before .if1 .taken,
+      c .before .before .before .before .before .before .before .pre .0,
       c .descriptor-plan .ensures,
       c .before .read-field .ensures,
       c .before .before .enum-told .given .1,
@@ -67,37 +63,27 @@ returns-3 : tie.Need-returns-3
 unfolding fieldPlan
 returns-3 c =
     rw (
-      sym (c .before .before .before .before .before .before .before .chosen .ensures) ∙ c .before .before .before .before .before .before .if1 .taken,
+      c .before .before .before .before .before .before .before .pre .0,
       c .descriptor-plan2 .ensures,
       c .before .read-field2 .ensures,
       c .before .before .enum-told2 .given .1,
     )
 
-field-from-requires-2 : tie.Need-field-from-requires-2
-field-from-requires-2 c κs = search needs
-
-returns-4 : tie.Need-returns-4
-unfolding fieldPlan
-returns-4 c = rw (sym (c .before .before .chosen .ensures) ∙ c .before .if1 .left, c .field-from2 .ensures)
-
 pub field-plan-spec : {M : Type 1} → statement M
 field-plan-spec =
     tie.close
     (tie.spec
-    chosen-requires
     add-at
     enum-known-form
     cast-item-count
     item-count-requires
     field-from-requires
-    returns
     enum-told
     read-field-requires
     descriptor-plan-requires
-    returns-2
     enum-told-2
     read-field-requires-2
     descriptor-plan-requires-2
-    returns-3
-    field-from-requires-2
-    returns-4)
+    returns
+    returns-2
+    returns-3)

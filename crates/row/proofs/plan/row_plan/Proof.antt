@@ -9,7 +9,7 @@ use native.Mathlib.Numerals.{add-one}
 use lib.ListN.{length, length-map, length-take}
 use borrow.Author.Tests.{not-false, eqb-true}
 use borrow.Author.Needs.{needs}
-use Rattle.card.proofs.Cases.{both}
+use Rattle.ascii.proofs.Cases.{both}
 use Rattle.tform.specs.Width.{countOk, fieldItems}
 use Rattle.layout.specs.Layout.{columnsOf}
 use Rattle.layout.proofs.Ok.{column-limit}

@@ -5,8 +5,8 @@ use Prim.Native.Nat.{_≤_, _-_, _+_}
 use lib.ListN.{length, drop}
 use borrow.Author.Needs.{needs}
 use borrow.Author.Tests.{eq-eqb, ne-eqb}
-use Rattle.card.proofs.Scan.{goes-on, stops}
-use Rattle.card.proofs.Front.{front-next, front-stop, front-end}
+use Rattle.ascii.proofs.Scan.{goes-on, stops}
+use Rattle.ascii.proofs.Front.{front-next, front-stop, front-end}
 use Rattle.steps.specs.Split.{before}
 use Rattle.steps.proofs.words.bytes_before.Statement.{statement}
 use Rattle.steps.proofs.words.bytes_before.Tie as tie

@@ -5,9 +5,9 @@ use mathlib.Core.Path.{refl, _≡_}
 use borrow.Author.Needs.{needs}
 use native.Mathlib.Omega.{arith}
 use lib.ListN.{length, take, getD}
-use Rattle.card.specs.Text.{decimal, digit}
-use Rattle.card.proofs.Front.{front-passes, front-le}
-use Rattle.card.proofs.Decimal.{decimal-next, digit-range}
+use Rattle.ascii.specs.Text.{decimal, digit}
+use Rattle.ascii.proofs.Front.{front-passes, front-le}
+use Rattle.ascii.proofs.Decimal.{decimal-next, digit-range}
 use Rattle.tform.proofs.Count.{cap-next}
 use Rattle.tform.proofs.parsing.capped_count.Statement.{statement}
 use Rattle.tform.proofs.parsing.capped_count.Tie as tie

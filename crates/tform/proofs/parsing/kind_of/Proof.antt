@@ -2,7 +2,7 @@
 -- Assumes nothing.
 use Rattle.tform.specs.declared.TFormType.the-variants.{Items, P, Q}
 use mathlib.Core.Path.{_∙_, ap}
-use Rattle.card.proofs.Parts.{part-from}
+use Rattle.ascii.proofs.Parts.{part-from}
 use Rattle.tform.specs.Form.{firstElement, kindWith}
 use Rattle.tform.proofs.Letters.{kind-none, kind-p, kind-q, kind-items}
 use borrow.Author.Needs.{needs}

@@ -1,0 +1,12 @@
+pub mod Cases
+pub mod Scan
+pub mod Front
+pub mod Spaces
+pub mod Decimal
+pub mod Parts
+pub mod Same
+pub mod Reading
+pub mod Turns
+pub mod Lengths
+pub mod Chain
+pub mod Back
