@@ -35,7 +35,7 @@ It was made by
     {command}
     python3 tests/vectors.py make FOLDER
 
-`vectors` runs each case through `compare::same_text` (by `cases::report_cases`) and prints one line: how many cases there are, how many differ, and the first that does.
+`vectors` runs each case by `cases::report_cases` and prints one line: how many cases there are, how many differ, and the first that does.
 
 Case {number} is wrong on purpose, so that the program could not print its line blindly: line {line} of its text is
 

@@ -166,7 +166,8 @@ fn descriptor_kind(form: TFormType) -> FieldKind
     }
 }
 
-// The same plan for `rest_of`. So `field_plan` has one caller, the loop that stores, and is compiled into it.
+// A twin of `field_plan`, for `rest_of`, kept for speed (docs/SPEED.md): so `field_plan` has one caller, the loop that stores, and is
+// compiled into it.
 fn judged_plan(area: &[u8], plan: RowPlan, column: Column, c: usize, skip: u64) -> FieldPlan
     requires { ⌜ (chosen (plan .choice) c ≡ true) × (plan .start + column .start < 2 ^ 64) ⌝ }
     ensures { λ r. ⌜ r ≡ fieldPlan (now (area .entry)) plan column c skip ⌝ }
