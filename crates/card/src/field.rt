@@ -1,27 +1,12 @@
 // The value in a record's value field. `start` is the place of a field's first byte in the header.
 ghost use mathlib.Core.Path.{_≡_};
-ghost use Prim.Native.Nat.{_+_, _≤_, _<_, _^_};
-ghost use lib.ListN.{length, take};
+ghost use Prim.Native.Nat.{_+_, _<_, _^_};
+ghost use lib.ListN.{length};
 ghost use Rattle.card.specs.declared.Value.the-variants.{Integer};
-ghost use Rattle.ascii.specs.Text.{front, digit, decimal};
 ghost use Rattle.card.specs.Value.{signed, digitsValue, integerValue, stringValue, valueFrom, fieldValue};
 use super::Value;
 use super::text;
-
-// The number that the first n digits say.
-fn number(s: &[u8], n: usize) -> u64
-    requires { ⌜ (n ≤ 18) × (n ≤ front digit (now s)) ⌝ }
-    ensures value { λ r. ⌜ r ≡ decimal 0 (take n (now (s .entry))) ⌝ }
-    ensures bounded { λ r. ⌜ r < 10 ^ 18 ⌝ }
-{
-    let mut sum: u64 = 0;
-    let mut i: usize = 0;
-    while i < n {
-        sum = sum * 10 + (s[i] - 48) as u64;
-        i += 1;
-    }
-    sum
-}
+use ascii::Found;
 
 fn signed_value(n: u64, minus: bool) -> Value
     requires { ⌜ n < 10 ^ 18 ⌝ }
@@ -46,7 +31,10 @@ fn digits_value(s: &[u8], minus: bool) -> Value
     if !text::may_follow(&s[n..]) {
         return Value::Invalid;
     }
-    signed_value(number(s, n), minus)
+    let Found::At(number) = ascii::digits::parse_number(&s[..n]) else {
+        return Value::Invalid;
+    };
+    signed_value(number as u64, minus)
 }
 
 fn integer_value(s: &[u8]) -> Value

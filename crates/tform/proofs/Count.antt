@@ -1,9 +1,9 @@
--- The count of a form: capped at each digit, it is still within the limit just where the exact one is.
+-- The count of a form: capped, it is still within the limit just where the exact one is.
 -- Assumes nothing.
 use mathlib.Core.Path.{_≡_, refl}
 use mathlib.Core.List.{List}
 use mathlib.Core.Bool.{true, cond}
-use Prim.Native.Nat.{ℕ, _+_, _*_, _≤_, min}
+use Prim.Native.Nat.{ℕ, _≤_, min}
 use native.Mathlib.Omega.{arith}
 use lib.Dec.{eqb, leb}
 use lib.ListN.{take, drop}
@@ -17,9 +17,6 @@ use Rattle.tform.specs.declared.parsing.Kind.{Kind}
 use Rattle.tform.specs.declared.parsing.Kind.the-variants.{Is, Unknown}
 use Rattle.tform.specs.Width.{countOk}
 use Rattle.tform.specs.Form.{repeatCount, kindOf, counted, formOf}
-
-pub cap-next : (a d : ℕ) → min 8388609 (min 8388609 a * 10 + d) ≡ min 8388609 (a * 10 + d)
-cap-next a d = omega arith
 
 -- the count that the code reads
 abbrev pub cappedCount : List ℕ → ℕ

@@ -9,6 +9,7 @@ ghost use Rattle.tform.specs.declared.TFormType.the-variants.{Items, P, 
 ghost use Rattle.tform.specs.Form.{elementOf, firstElement, kindWith, kindOf};
 use super::TFormType;
 use super::VariableArrayTy;
+use ascii::Found;
 
 // The type of an item, or of an array's elements, by its letter.
 pub enum Element {
@@ -22,31 +23,17 @@ pub enum Kind {
     Unknown,
 }
 
-// `n`, or 8,388,609 if it is larger.
-fn capped(n: u32) -> u32
+// `n`, or 8,388,609, one more than the limit, if it is larger.
+fn capped(n: usize) -> u32
     ensures { λ r. ⌜ r ≡ min 8388609 n ⌝ }
 {
     if 8388609 < n {
         return 8388609;
     }
-    n
+    n as u32
 }
 
-// The count of so many digits, capped.
-fn capped_count(text: &[u8], digits: usize) -> u32
-    requires { ⌜ digits ≤ front digit (now text) ⌝ }
-    ensures { λ r. ⌜ r ≡ min 8388609 (decimal 0 (take digits (now (text .entry)))) ⌝ }
-{
-    let mut count: u32 = 0;
-    let mut i: usize = 0;
-    while i < digits {
-        count = capped(count * 10 + (text[i] - 48) as u32);
-        i += 1;
-    }
-    count
-}
-
-// The same, with 1 where there are no digits.
+// The count of so many digits, capped, with 1 where there are none. A number that is too large to be held is above the limit too.
 pub fn repeat_count(text: &[u8], digits: usize) -> u32
     requires { ⌜ digits ≤ front digit (now text) ⌝ }
     ensures { λ r. ⌜ r ≡ cond (eqb digits 0) 1 (min 8388609 (decimal 0 (take digits (now (text .entry))))) ⌝ }
@@ -54,7 +41,11 @@ pub fn repeat_count(text: &[u8], digits: usize) -> u32
     if digits == 0 {
         return 1;
     }
-    capped_count(text, digits)
+    let number = ascii::digits::parse_number(&text[..digits]);
+    match number {
+        Found::At(count) => capped(count),
+        Found::Nothing => 8388609,
+    }
 }
 
 fn element_of(letter: u8) -> Element
