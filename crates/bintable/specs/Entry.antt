@@ -139,7 +139,7 @@ headerChecks h = firstRefusal (checked h ∷ nineChecks h ∷ columnChecks h (si
 unfoldable pub allChecks : List ℕ → List ℕ → Outcome
 allChecks h a = before (headerChecks h) (check10 (layoutOf h) a)
 
--- a layout, or a refusal's number and place; a data area is accepted if there is a layout
+-- a layout, or a refusal's number and place. The request's term "accepted", of a data area: the entry returns a layout for it
 pub data Entry : Type 0 where
   accepted : BinTable → Entry
   refused : ℕ → ℕ → Entry
