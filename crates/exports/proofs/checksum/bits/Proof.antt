@@ -1,14 +1,16 @@
 -- `bits` meets its contract: a negative number by its distance from -1.
 -- Assumes nothing.
-use Rattle.exports.proofs.Signs.{Kept, kept, Turned, turned}
+use native.Mathlib.Omega.{arith}
+use mir.Syntax.{w64}
+use Rattle.cell.proofs.Signed.{Kept, kept, Turned, turned}
 use Rattle.exports.proofs.checksum.bits.Statement.{statement}
 use Rattle.exports.proofs.checksum.bits.Tie as tie
 
-upper : (c : tie.Then1) → Kept (c .before .args .n)
-upper c = kept (c .before .args .n) (c .before .fits .n) (c .if1 .taken)
+upper : (c : tie.Then1) → Kept w64 (c .before .args .n)
+upper c = kept w64 (c .before .args .n) (omega arith) (c .before .fits .n) (c .if1 .taken)
 
-lower : (c : tie.Else1) → Turned (c .before .args .n)
-lower c = turned (c .before .args .n) (c .before .fits .n) (c .if1 .left)
+lower : (c : tie.Else1) → Turned w64 (c .before .args .n)
+lower c = turned w64 (c .before .args .n) (omega arith) (c .before .fits .n) (c .if1 .left)
 
 cast-result : tie.Need-cast-result
 cast-result c = upper c .0
