@@ -190,7 +190,7 @@ pub fn array(theap: u64, end: u64, ty: VariableArrayTy, num_elems: u64, offset_b
         return Field::OutsideHeap;
     }
     let n = tform::item_count(ty, num_elems);
-    let width = tform::width(ty);
+    let width = tform::item_width(tform::letter(ty)) as u64;
     // No product, which could wrap.
     if (end - theap - offset_byte) / width < n {
         return Field::OutsideHeap;

@@ -20,7 +20,7 @@ pub fn columns_ok(layout: BinTable) -> bool
         if column.start != at {
             return false;
         }
-        at += tform::field_bytes(form, column.count);
+        at += tform::num_bytes_field(form, column.count);
         i += 1;
     }
     at == layout.naxis1

@@ -44,7 +44,8 @@ fn planned_cell(area: &[u8], plan: FieldPlan, i: usize) -> Cell
     let ty = plan.ty;
     let column = plan.column;
     let idx = plan.first + i as u64;
-    let value = entry(area, plan.at + idx * tform::width(ty), kind, ty, column);
+    let width = tform::item_width(tform::letter(ty)) as u64;
+    let value = entry(area, plan.at + idx * width, kind, ty, column);
     Cell {
         row: plan.row,
         column: plan.c,

@@ -336,7 +336,7 @@ pub fn row_plan(layout: BinTable, area: &[u8], cursor: TableData, room: usize) -
             return any_plan(layout, area, cursor, room);
         }
         let form = column.form;
-        at += tform::field_bytes(form, column.count);
+        at += tform::num_bytes_field(form, column.count);
         cells += table::pass::item_cells(column, is_chosen);
         c += 1;
     }

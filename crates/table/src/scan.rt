@@ -22,7 +22,7 @@ pub fn after(scan: Scan, column: Column, c: usize, size: u64) -> Scan
     ensures { result ≡ after scan column c size }
 {
     let form = column.form;
-    let at = scan.at + tform::field_bytes(form, column.count);
+    let at = scan.at + tform::num_bytes_field(form, column.count);
     if scan.found {
         return Scan {
             at,

@@ -3,3 +3,4 @@ pub mod Widths
 pub mod Count
 pub mod Letters
 pub mod Examples
+pub mod EachByte

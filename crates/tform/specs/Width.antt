@@ -12,14 +12,18 @@ unfoldable pub among : ℕ → List ℕ → Bool
 among b [] = false
 among b (c ∷ cs) = eqb b c || among b cs
 
--- the bytes of one item, by the form's letter: of a descriptor at P and Q, and 0 for a byte that is no form's letter
+-- the bytes of one item, by the form's letter: L, B, A 1; I 2; J, E 4; K, D, C 8; M 16; X, of which an item is one byte, 1; and of one
+-- descriptor, at P and Q. 0 for a byte that is no form's letter
 unfoldable pub letterWidth : ℕ → ℕ
 letterWidth b =
-    cond (among b (bytes "LXBA")) 1
+    cond (among b (bytes "LBA")) 1
     (cond (among b (bytes "I")) 2
     (cond (among b (bytes "JE")) 4
-    (cond (among b (bytes "KDCP")) 8
-    (cond (among b (bytes "MQ")) 16 0))))
+    (cond (among b (bytes "KDC")) 8
+    (cond (among b (bytes "M")) 16
+    (cond (among b (bytes "X")) 1
+    (cond (among b (bytes "P")) 8
+    (cond (among b (bytes "Q")) 16 0)))))))
 
 -- the letter of an item's type, in ASCII
 abbrev pub letter : VariableArrayTy → ℕ

@@ -41,22 +41,19 @@ pub enum TForm {
     Invalid,
 }
 
-// The bytes of one item for each letter from A to Z, 0 for a letter that is no form's.
-const WIDTHS: [u8; 26] = [
-    1, 1, 8, 8, 4, 0, 0, 0, 2, 4, 8, 1, 16, 0, 0, 8, 16, 0, 0, 0, 0, 0, 0, 1, 0, 0,
-];
-
 // The bytes of one item, or of one descriptor, by the form's letter; 0 for any other byte.
+#[tactic(auto, unfolding(crate::specs::Width::letterWidth, crate::specs::Width::among, ascii::specs::Text::bytes))]
 pub fn item_width(letter: u8) -> u8
     ensures { result ≡ letterWidth letter }
 {
-    if letter < 65 {
-        return 0;
+    match letter {
+        b'L' | b'X' | b'B' | b'A' => 1,
+        b'I' => 2,
+        b'J' | b'E' => 4,
+        b'K' | b'D' | b'C' | b'P' => 8,
+        b'M' | b'Q' => 16,
+        _ => 0,
     }
-    if 90 < letter {
-        return 0;
-    }
-    WIDTHS[(letter - 65) as usize]
 }
 
 // The letter of an item.
@@ -64,36 +61,17 @@ pub fn letter(ty: VariableArrayTy) -> u8
     ensures { result ≡ letter ty }
 {
     match ty {
-        VariableArrayTy::L => 76,
-        VariableArrayTy::X => 88,
-        VariableArrayTy::B => 66,
-        VariableArrayTy::I => 73,
-        VariableArrayTy::J => 74,
-        VariableArrayTy::K => 75,
-        VariableArrayTy::A => 65,
-        VariableArrayTy::E => 69,
-        VariableArrayTy::D => 68,
-        VariableArrayTy::C => 67,
-        VariableArrayTy::M => 77,
-    }
-}
-
-// The bytes of one item by cases, as the table has them: the calls that read cells go by it, since a look-up copies the table.
-pub fn width(ty: VariableArrayTy) -> u64
-    ensures { result ≡ letterWidth (letter ty) }
-{
-    match ty {
-        VariableArrayTy::L => 1,
-        VariableArrayTy::X => 1,
-        VariableArrayTy::B => 1,
-        VariableArrayTy::I => 2,
-        VariableArrayTy::J => 4,
-        VariableArrayTy::K => 8,
-        VariableArrayTy::A => 1,
-        VariableArrayTy::E => 4,
-        VariableArrayTy::D => 8,
-        VariableArrayTy::C => 8,
-        VariableArrayTy::M => 16,
+        VariableArrayTy::L => b'L',
+        VariableArrayTy::X => b'X',
+        VariableArrayTy::B => b'B',
+        VariableArrayTy::I => b'I',
+        VariableArrayTy::J => b'J',
+        VariableArrayTy::K => b'K',
+        VariableArrayTy::A => b'A',
+        VariableArrayTy::E => b'E',
+        VariableArrayTy::D => b'D',
+        VariableArrayTy::C => b'C',
+        VariableArrayTy::M => b'M',
     }
 }
 
@@ -103,8 +81,8 @@ pub fn form_letter(form: TFormType) -> u8
 {
     match form {
         TFormType::Items(ty) => letter(ty),
-        TFormType::P(_) => 80,
-        TFormType::Q(_) => 81,
+        TFormType::P(_) => b'P',
+        TFormType::Q(_) => b'Q',
     }
 }
 
@@ -143,17 +121,6 @@ pub fn num_bytes_field(form: TFormType, count: u32) -> u64
     ensures { result ≡ fieldBytes form count }
 {
     field_items(form, count) * item_width(form_letter(form)) as u64
-}
-
-// The bytes of a field in a row, by cases.
-pub fn field_bytes(form: TFormType, count: u32) -> u64
-    ensures { result ≡ fieldBytes form count }
-{
-    match form {
-        TFormType::Items(ty) => item_count(ty, count as u64) * width(ty),
-        TFormType::P(_) => 8,
-        TFormType::Q(_) => 16,
-    }
 }
 
 // Whether a count is within its limit.

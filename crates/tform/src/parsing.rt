@@ -47,21 +47,24 @@ pub fn repeat_count(text: &[u8], digits: usize) -> u32
     }
 }
 
+// It stands alone in what is compiled: each copy would have tables of its own in read-only memory.
+#[inline(never)]
+#[tactic(auto, unfolding(crate::specs::Form::elementOf, crate::specs::Form::elementAmong))]
 fn element_of(letter: u8) -> Element
     ensures { result ≡ elementOf letter }
 {
     match letter {
-        76 => Element::Is(VariableArrayTy::L),
-        88 => Element::Is(VariableArrayTy::X),
-        66 => Element::Is(VariableArrayTy::B),
-        73 => Element::Is(VariableArrayTy::I),
-        74 => Element::Is(VariableArrayTy::J),
-        75 => Element::Is(VariableArrayTy::K),
-        65 => Element::Is(VariableArrayTy::A),
-        69 => Element::Is(VariableArrayTy::E),
-        68 => Element::Is(VariableArrayTy::D),
-        67 => Element::Is(VariableArrayTy::C),
-        77 => Element::Is(VariableArrayTy::M),
+        b'L' => Element::Is(VariableArrayTy::L),
+        b'X' => Element::Is(VariableArrayTy::X),
+        b'B' => Element::Is(VariableArrayTy::B),
+        b'I' => Element::Is(VariableArrayTy::I),
+        b'J' => Element::Is(VariableArrayTy::J),
+        b'K' => Element::Is(VariableArrayTy::K),
+        b'A' => Element::Is(VariableArrayTy::A),
+        b'E' => Element::Is(VariableArrayTy::E),
+        b'D' => Element::Is(VariableArrayTy::D),
+        b'C' => Element::Is(VariableArrayTy::C),
+        b'M' => Element::Is(VariableArrayTy::M),
         _ => Element::Unknown,
     }
 }
@@ -109,10 +112,10 @@ pub fn kind_of(text: &[u8]) -> Kind
     if text.len() == 0 {
         return Kind::Unknown;
     }
-    if text[0] == 80 {
+    if text[0] == b'P' {
         return p_kind(first_element(&text[1..]));
     }
-    if text[0] == 81 {
+    if text[0] == b'Q' {
         return q_kind(first_element(&text[1..]));
     }
     items_kind(element_of(text[0]))

@@ -20,14 +20,14 @@ returns-then-end-theap-2 c =
     (omega (arith, c.if-end-theap-2.true))
 
 pub nonzero_div-end : goal.nonzero_div-end
-nonzero_div-end c = omega (arith, c.width-width.ensures, width-pos c.args.ty)
+nonzero_div-end c = rw (c.item_width-width.ensures, c.letter.ensures) (width-pos c.args.ty)
 
 pub returns-then-end-theap-3 : goal.returns-then-end-theap-3
 returns-then-end-theap-3 c =
     let a = c.args in
     array-outside a.theap a.end a.ty a.num_elems a.offset_byte c.if-num_elems-eq0.false
     (too_many a.theap a.end a.ty a.num_elems a.offset_byte
-    (simp (c.width-width.ensures, c.item_count-n.ensures) at c.if-end-theap-3.true))
+    (simp (c.item_width-width.ensures, c.letter.ensures, c.item_count-n.ensures) at c.if-end-theap-3.true))
 
 pub returns : goal.returns
 returns c =
@@ -35,4 +35,4 @@ returns c =
     rw c.item_count-n.ensures
     (array-sound a.theap a.end a.ty a.num_elems a.offset_byte c.if-num_elems-eq0.false
     (enough a.theap a.end a.ty a.num_elems a.offset_byte c.if-end-theap.false c.if-end-theap-2.false
-    (simp (c.width-width.ensures, c.item_count-n.ensures) at c.if-end-theap-3.false)))
+    (simp (c.item_width-width.ensures, c.letter.ensures, c.item_count-n.ensures) at c.if-end-theap-3.false)))

@@ -27,7 +27,7 @@ pub overflow_add-at : goal.overflow_add-at
 overflow_add-at c =
     let l = c.args.layout in let i = c.loop-i.i in
     let e : countOk (get_or l.columns i noColumn).form (get_or l.columns i noColumn).count ≡ true = cc in
-    omega (arith, c.field_bytes-at.ensures, column-limit (get_or l.columns i noColumn) e)
+    omega (arith, c.num_bytes_field-at.ensures, column-limit (get_or l.columns i noColumn) e)
 
 pub loop-i-preserved : goal.loop-i-preserved
 loop-i-preserved c =
@@ -35,8 +35,8 @@ loop-i-preserved c =
     let n = columns l (omega arith) c.requires in
     let e : countOk (get_or l.columns i noColumn).form (get_or l.columns i noColumn).count ≡ true = cc in (
       omega arith,
-      omega (arith, c.field_bytes-at.ensures, column-limit (get_or l.columns i noColumn) e),
-      rw c.field_bytes-at.ensures
+      omega (arith, c.num_bytes_field-at.ensures, column-limit (get_or l.columns i noColumn) e),
+      rw c.num_bytes_field-at.ensures
           (c.loop-i.invariant.2 ∙ ok-next _ _ (columnsOf l) i _ (omega (arith, n)) (column-at l i c.loop-i-test.true) e c.if-column-at.false),
     )
 

@@ -60,7 +60,7 @@ overflow_add-at c =
     let k = c.loop-c.c in
     let y = ready-says l c.args.area.now c.args.cursor.choice c.args.cursor.row (sym c.if-not-ready.ensures) in
     let o = ordered l c.args.cursor.choice k c.loop-c.at _ c.chosen-is_chosen.ensures c.if-not-plain_in_order.ensures in
-    omega (arith, c.field_bytes-at.ensures, c.loop-c.invariant.summed.bytes, ready-columns _ _ _ _ y, column-limit (columnOf l k) o.count)
+    omega (arith, c.num_bytes_field-at.ensures, c.loop-c.invariant.summed.bytes, ready-columns _ _ _ _ y, column-limit (columnOf l k) o.count)
 
 pub loop-c-preserved : goal.loop-c-preserved
 loop-c-preserved c =
@@ -75,7 +75,7 @@ loop-c-preserved c =
     let few : c.item_cells-cells.result ≤ 17594467745808 = rw z (ready-few l a r.choice r.row y r.heap k o.count) in
     record {
       within = omega arith;
-      summed = rw (add-one k, c.field_bytes-at.ensures)
+      summed = rw (add-one k, c.num_bytes_field-at.ensures)
           (summed-next l a r.choice r.heap r.row (full l f (ready-columns _ _ _ _ y)) k c.loop-c.at c.loop-c.cells _ c.loop-c-test.true
           c.loop-c.invariant.summed few o.count o.place z);
       cells = λ w. c.loop-c.invariant.cells (plain-all l a r.choice r.heap r.row k o.plain c.loop-c-test.true (rw add-one at w));

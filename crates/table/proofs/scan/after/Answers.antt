@@ -4,4 +4,4 @@ use Rattle.layout.proofs.Ok.{column-limit}
 use Rattle.table.proofs.scan.after.Goals as goal
 
 pub overflow_add-at : goal.overflow_add-at
-overflow_add-at c = omega (arith, c.field_bytes.ensures, column-limit c.args.column c.requires.0, c.requires.1.0)
+overflow_add-at c = omega (arith, c.num_bytes_field.ensures, column-limit c.args.column c.requires.0, c.requires.1.0)
