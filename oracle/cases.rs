@@ -72,7 +72,8 @@ const CASES: &str = "
 2.14a | 1PX | 8x1 00000009 00000000 heap 01 02 pad | all
 2.14b | 1QX | 16x1 0000000000000002 0000000000000000 heap 01 pad | all
 2.na | 0PE | 8x1 00000001 00000000 heap 00000001 | all
-2.nb | 1PB | 8x1 00000001 00000000 heap 01 02 03 theap=10 | all
+2.nb | 2PE | 8x1 00000001 00000000 heap 00000001 | all
+2.nc | 1PB | 8x1 00000001 00000000 heap 01 02 03 theap=10 | all
 
 # Counts of 0 and empty tables
 3.1a | 0E 1J | 4x2 00000001 00000002 | all

@@ -90,12 +90,15 @@ B.3c | TFIELDS = 2 ; TFORM1  = ' 1E' ; TFORM2  = '1I'
 B.3d | TFIELDS = 2 ; TFORM1  = 'P' ; TFORM2  = '1I'
 B.3e | TFIELDS = 2 ; TFORM1  = 'PZ' ; TFORM2  = '1I'
 B.3f | TFIELDS = 2 ; TFORM1  = '' ; TFORM2  = '1I'
+B.3g | TFIELDS = 2 ; TFORM1  = '0P' ; TFORM2  = '1I'
 B.4 | TFORM1  = '9X' ; NAXIS1  = 1
 B.5 | TFIELDS = 8 ; TFORM1  = '1X' ; TFORM2  = '1X' ; TFORM3  = '1X' ; TFORM4  = '1X' ; TFORM5  = '1X' ; TFORM6  = '1X' ; TFORM7  = '1X' ; TFORM8  = '1X' ; NAXIS1  = 1
 B.6a | TFORM1  = '1X' ; NAXIS1  = 1
 B.6b | TFORM1  = '9X' ; NAXIS1  = 2
 B.7 | TFORM1  = '99999999999999999999E' ; NAXIS1  = 4 ; data 4
-B.8 | TFORM1  = '8388609PE' ; NAXIS1  = 8 ; PCOUNT  = 4 ; data 12
+B.8a | TFORM1  = '0PE' ; NAXIS1  = 8 ; PCOUNT  = 4 ; data 12
+B.8b | TFORM1  = '2PE' ; NAXIS1  = 8 ; PCOUNT  = 4 ; data 12
+B.8c | TFORM1  = '8388609PE' ; NAXIS1  = 8 ; PCOUNT  = 4 ; data 12
 B.9 | TFORM1  = '576460752303423489E' ; NAXIS1  = 4 ; data 4
 B.10a | PCOUNT  = 4 ; THEAP   = 1 ; data 6
 B.10b | PCOUNT  = 4 ; THEAP   = 7 ; data 6
@@ -128,6 +131,9 @@ B.ng | GCOUNT  = 2
 B.nh | -TFIELDS
 B.ni | TFIELDS = -1
 B.nj | NAXIS1  = 3
+B.nk | TFIELDS = 2 ; TFORM1  = '0PE' ; TFORM2  = '1I'
+B.nl | TFORM1  = '0QD' ; NAXIS1  = 0 ; data 0
+B.nm | TFORM1  = '2PE' ; NAXIS1  = 16 ; data 16
 ";
 
 /// Longer lists are cut to this many cells.

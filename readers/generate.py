@@ -1,6 +1,7 @@
 """Random tables that are well formed by section 7.3 of the FITS standard, as whole extensions of at most 65,536 bytes:
 all forms, X and count 0 too, every L byte, strings that end early, arrays that are empty, shared or far apart, gaps
-before and in the heap, and names that are missing, empty or the same."""
+before and in the heap, and names that are missing, empty or the same. P and Q have count 1: count 0, which the standard
+allows as well, is left out, since astropy reads a descriptor there; cases.py has it."""
 import random
 import struct
 

@@ -30,6 +30,9 @@ from header_cases import end_of, ended, keyword, name_of, padded, record, record
 
 AREA = 65536
 
+# the cases by name stay below this, so that the repository stays small; the program reads any length
+MOST_NAMED = 600000
+
 # ---- what docs/FORMAT.md says of a table's header ----
 
 TABLE_NAMES = ['XTENSION', 'BITPIX', 'NAXIS', 'NAXIS1', 'NAXIS2', 'PCOUNT', 'GCOUNT', 'TFIELDS', 'THEAP']
@@ -46,6 +49,7 @@ WIDTH = {'L': 1, 'B': 1, 'A': 1, 'I': 2, 'J': 4, 'E': 4, 'K': 8, 'D': 8, 'C': 8,
 DESCRIPTOR = {'P': 8, 'Q': 16}
 ELEMENTS = b'LXBIJKAEDCM'
 LARGEST_COUNT = 8388608
+MOST_DESCRIPTORS = 1
 
 Column = collections.namedtuple('Column', 'form count start size stretch')
 Layout = collections.namedtuple('Layout', 'rows naxis1 pcount theap columns')
@@ -57,19 +61,20 @@ class Refused(Exception):
 
 
 def form_of(of):
-    """(letters, count, bytes of the field), or None for a bad form."""
+    """(letters, count, bytes of the field), or None for a bad form. The count of P and Q is 1, a
+    descriptor, or 0, an empty field."""
     found = re.match(rb'([0-9]*)([LXBIJKAEDCMPQ])', of)
     if not found:
         return None
     count = int(found.group(1)) if found.group(1) else 1
-    if count > LARGEST_COUNT:
-        return None
     letter = found.group(2).decode('ascii')
+    if count > (MOST_DESCRIPTORS if letter in DESCRIPTOR else LARGEST_COUNT):
+        return None
     if letter in DESCRIPTOR:
         element = of[found.end():found.end() + 1]
         if element == b'' or element not in ELEMENTS:
             return None
-        return letter + element.decode('ascii'), count, DESCRIPTOR[letter]
+        return letter + element.decode('ascii'), count, DESCRIPTOR[letter] * count
     if letter == 'X':
         return letter, count, -(-count // 8)
     return letter, count, WIDTH[letter] * count
@@ -484,12 +489,17 @@ def order_cases():
     ]
 
 
-EVERY_FORM = ['L', 'X', 'B', 'I', 'J', 'K', 'A', 'E', 'D', 'C', 'M', 'PE', 'QD']
+ITEM_FORMS = ['L', 'X', 'B', 'I', 'J', 'K', 'A', 'E', 'D', 'C', 'M']
+
+
+def every_item(count):
+    """The letters of items with these digits: 53 bytes for each of the count, and those of X."""
+    return [count + form for form in ITEM_FORMS]
 
 
 def every(count):
-    """All the letters with these digits: 53 bytes for each of the count, those of X, and 24 for P and Q."""
-    return [count + form for form in EVERY_FORM]
+    """All the letters with these digits, which mean 1 or 0: 24 bytes more for P and Q, or none."""
+    return every_item(count) + [count + 'PE', count + 'QD']
 
 
 # each is the second form of three
@@ -507,6 +517,11 @@ BAD_FORMS = [
     ('a descriptor with a bad element', '1QZ'),
     ('a descriptor of descriptors', '1PQ'),
     ('a descriptor with a lower-case element', 'Qe'),
+    ('count 0 of descriptors without an element', '0P'),
+    ('count 0 of descriptors with a bad element', '0PZ'),
+    ('two descriptors without an element', '2P'),
+    ('nine descriptors and a rest', '9PAA'),
+    ('two descriptors in 30 digits', '2'.zfill(30) + 'QX'),
     ('a count of 2 to the 128th and 1', '340282366920938463463374607431768211457E'),
     ('60 nines', '9' * 60 + 'E'),
     ('60 nines of a descriptor', '9' * 60 + 'PE'),
@@ -516,27 +531,28 @@ BAD_FORMS = [
 
 def form_cases():
     elements = ['1P' + letter for letter in 'LXBIJKAEDCM'] + ['Q' + letter for letter in 'LXBIJKAEDCM']
-    rests = ['E', '1E and more', '1J1J', "2I''", '1EZ', '3A/', '8X-', '1B ', 'PE(20)', '1QD(5)', '2PX (', '0PM', '0QC',
-             '9PAA']
+    rests = ['E', '1E and more', '1J1J', "2I''", '1EZ', '3A/', '8X-', '1B ', 'PE(20)', '1QD(5)', '1PX (', '0PM', '0QC',
+             '1PAA']
     bits = ['0X', '1X', '7X', '8X', '9X', '15X', '16X', '17X', '64X', '65X']
     made = [
-        case('every letter without digits and with 0', 'accepted', table(every('') + every('0'), 78 + 24),
-             area=102),
-        case('every letter with 1 and 7', 'accepted', table(every('1') + every('7'), 78 + 396), area=474),
-        case('every letter with 8 and 9', 'accepted', table(every('8') + every('9'), 449 + 503), area=952),
+        case('every letter without digits and with 0', 'accepted', table(every('') + every('0'), 78), area=78),
+        case('every letter with 1 and 7', 'accepted', table(every('1') + every_item('7'), 78 + 372),
+             area=450),
+        case('every letter with 8 and 9', 'accepted', table(every_item('8') + every_item('9'), 425 + 479),
+             area=904),
         case('every letter with 12, and with 5 in 30 digits', 'accepted',
-             table(every('12') + every('5'.zfill(30)), 662 + 290), area=952),
+             table(every_item('12') + every_item('5'.zfill(30)), 638 + 266), area=904),
         case('P and Q with every element letter', 'accepted', table(elements, 88 + 176), area=264),
-        # 4 4 4 4 4 3 1 1 8 16 8 8 16 8 and 0 1 1 1 2 2 2 3 8 9 bytes
-        case('what comes after a form; bits in bytes', 'accepted', table(rests + bits, 89 + 29), area=118),
+        # 4 4 4 4 4 3 1 1 8 16 8 0 0 8 and 0 1 1 1 2 2 2 3 8 9 bytes
+        case('what comes after a form; bits in bytes', 'accepted', table(rests + bits, 65 + 29), area=94),
         case('the largest count, in 60 digits, of bits', 'accepted',
              table(['8388608'.zfill(60) + 'X'], 1048576, rows=0), area=0),
-        case('the largest count of descriptors', 'accepted', table(['8388608PE', '8388608QX', '8388607PI'], 32),
+        case('8: the largest count, of descriptors', 'refused 8 1', table(['8388608PE', '8388608QX', '8388607PI'], 32),
              area=32),
         case('9, not 8: every letter with the largest count', 'refused 9 0',
-             table(every('8388608'), 1048576, rows=0), area=0),
+             table(every_item('8388608') + ['1PE', '1QD'], 1048576, rows=0), area=0),
     ]
-    for k, form in enumerate(every('8388609')):
+    for k, form in enumerate(every_item('8388609') + ['2PE', '2QD']):
         forms = every('1')
         forms[k] = form
         made.append(case('8: one above the largest count, %s' % form, 'refused 8 %d' % (k + 1), table(forms, 78),
@@ -544,6 +560,32 @@ def form_cases():
     for why, form in BAD_FORMS:
         made.append(case('8: ' + why, 'refused 8 2', table(['1E', form, '1E'], 12)))
     return made
+
+
+def empty_field_cases():
+    """Descriptors that are not there, which are empty fields, and two or more of them, which are a bad form."""
+    among = table(['0PE', '1I', '0QD', '0PX', '1J', '00PE'], 6, rows=2, names=['NO', 'POS', '', None, 'WT', 'AFT'])
+    # 8 8 8 8 0 0 16 0 16 0 bytes
+    written = ['PE', '1PE', 'PE(20)', '00001PE', '0PE(20)', '00QD', 'QD', '0' * 60 + 'QX', '1'.zfill(60) + 'QX',
+               '0PAA']
+    none = ['0P' + letter for letter in 'LXBIJKAEDCM'] + ['0Q' + letter for letter in 'LXBIJKAEDCM']
+    return [
+        case('`0PE` alone: rows of no bytes, a heap', 'accepted', table(['0PE'], 0, rows=7, pcount=5, names=['POS']),
+             area=5, cut=734),
+        case('`0QD` alone, no rows', 'accepted', table(['0QD'], 0, rows=0, names=['WT']), area=0, cut=732),
+        case('9: `0PE` alone, NAXIS1 8', 'refused 9 0', table(['0PE'], 8), area=8),
+        # TTYPE1 is record 14, TTYPE2 record 15
+        case('empty descriptors first, side by side between others, and last; cut at the end of POS', 'accepted',
+             among, cut=1214, sought=['NO', 'POS', 'WT', 'AFT', '', 'N', 'PE']),
+        case('9: the same, NAXIS1 with 8 bytes more', 'refused 9 0', changed('NAXIS1', '14', of=among), area=28),
+        case('one descriptor and none in many digits', 'accepted', table(written, 64), area=64),
+        case('P and Q of count 0 with every element letter: 16,777,216 rows of no bytes', 'accepted',
+             table(none, 0, rows=16777216), area=0),
+        case('8: `2PE` alone, with the bytes of two', 'refused 8 1', table(['2PE'], 16), area=16),
+        case('8: `2QD` first, before 5 of TTYPE1 and 8 of TFORM2', 'refused 8 1',
+             table(['2QD', '3Z', '1E'], 36) + [keyword('TTYPE1', '1')], area=36),
+        case('8: `2PE` last behind `0PE`, before 9', 'refused 8 3', table(['1E', '0PE', '2PE'], 5), area=5),
+    ]
 
 
 # TTYPE2 is record 21, its string starts at byte 1,691; each next one 80 further
@@ -592,7 +634,7 @@ def name_cases():
 def named():
     """All of them."""
     return (example_cases() + whole_cases() + missing_cases() + unread_cases() + wrong_cases() + heap_cases()
-            + sum_cases() + order_cases() + form_cases() + name_cases())
+            + sum_cases() + order_cases() + form_cases() + empty_field_cases() + name_cases())
 
 
 # ---- random cases ----
@@ -602,6 +644,8 @@ FILL = [
     'TFORM1  8', "TUNIT1  = 'm'", 'TTYPE1   = 8', 'PCOUNT  == 7',
 ]
 COUNTS = ['', '', '', '0', '1', '1', '2', '3', '7', '8', '9', '12', '16', '007', '0' * 30 + '2']
+ONE_OR_NONE = ['', '', '', '1', '1', '1', '001', '0' * 30 + '1', '0', '0', '00', '0' * 30]
+ABOVE_ONE = ['2', '2', '3', '7', '8', '9', '16', '007', '0' * 30 + '2', '65536', '888888', '8388607', '8388608']
 RESTS = ['', '', '', '', '(20)', ' and more', 'Z', "''", '1E', '/', ' P']
 NAME_PARTS = ['A', 'A', 'B', 'b', '1', "''", ' ', '/', '_', b'\xe9', b'\0']
 BAD_TEXTS = [
@@ -638,8 +682,7 @@ def string_value(rng, of):
 def random_form(rng):
     letter = rng.choice('LXBIJKAEDCMPQ')
     if letter in 'PQ':
-        digits = rng.choice(COUNTS + ['8388608', '8388607', '65536', '8' * 6])
-        return digits + letter + rng.choice('LXBIJKAEDCM') + rng.choice(RESTS)
+        return rng.choice(ONE_OR_NONE) + letter + rng.choice('LXBIJKAEDCM') + rng.choice(RESTS)
     digits = rng.choice(COUNTS + ['%d' % rng.randrange(40)])
     if letter == 'X' and rng.randrange(4) == 0:
         digits = '%d' % rng.randrange(2000)
@@ -754,12 +797,18 @@ def fault_heap(rng, records):
         records.insert(rng.randrange(len(records) + 1), keyword('THEAP', value))
 
 
+def above_one(rng):
+    """A form of P or Q with a count above 1."""
+    return text(rng.choice(ABOVE_ONE) + rng.choice('PQ') + rng.choice('LXBIJKAEDCM') + rng.choice(RESTS))
+
+
 def fault_form(rng, records):
     large = '%d' % rng.choice([8388608, 8388609, 9999999, 10000000, 2 ** 32, 2 ** 32 + 1, 2 ** 64 + 1, 10 ** 40])
     odd = bytes([rng.randrange(256)]).replace(b"'", b"''")
     form = rng.choice([
         text(rng.choice(BAD_TEXTS)), text(large + rng.choice('LXBIJKAEDCM')), text(large + rng.choice(['PE', 'QX'])),
-        b'1' + odd, odd + b'E', b'1P' + odd, b'2Q' + odd + b'E', text(random_form(rng)),
+        b'1' + odd, odd + b'E', b'1P' + odd, b'0Q' + odd + b'E', text(random_form(rng)), above_one(rng),
+        above_one(rng),
     ])
     places = [k for k in used_places(records) if name_of(records[k]).startswith(b'TFORM')]
     if places:
@@ -881,9 +930,9 @@ def tell(cases, size):
     print('%d cases, %d bytes; %s' % (len(cases), size, ', '.join(told)), file=sys.stderr)
 
 
-def write(cases, folder):
+def write(cases, folder, most):
     made = b''.join(packed(one) for one in cases)
-    assert len(made) < LIMIT
+    assert len(made) < most
     os.makedirs(os.path.join(folder, 'data'), exist_ok=True)
     with open(os.path.join(folder, 'data', 'cases.bin'), 'wb') as file:
         file.write(made)
@@ -1054,7 +1103,7 @@ find 2 to 2 none
 ''',
     'every letter without digits and with 0': '''
 accepted
-table 26 columns 1 rows 102 bytes 0 pcount 102 theap
+table 26 columns 1 rows 78 bytes 0 pcount 78 theap
 column 0 L 1 at 0 bytes 1 missing
 column 1 X 1 at 1 bytes 1 missing
 column 2 B 1 at 2 bytes 1 missing
@@ -1079,14 +1128,14 @@ column 20 E 0 at 78 bytes 0 missing
 column 21 D 0 at 78 bytes 0 missing
 column 22 C 0 at 78 bytes 0 missing
 column 23 M 0 at 78 bytes 0 missing
-column 24 PE 0 at 78 bytes 8 missing
-column 25 QD 0 at 86 bytes 16 missing
+column 24 PE 0 at 78 bytes 0 missing
+column 25 QD 0 at 78 bytes 0 missing
 name 0 to 26 empty
 find 0 to 2 none
 ''',
     'what comes after a form; bits in bytes': '''
 accepted
-table 24 columns 1 rows 118 bytes 0 pcount 118 theap
+table 24 columns 1 rows 94 bytes 0 pcount 94 theap
 column 0 E 1 at 0 bytes 4 missing
 column 1 E 1 at 4 bytes 4 missing
 column 2 J 1 at 8 bytes 4 missing
@@ -1097,30 +1146,100 @@ column 6 X 8 at 23 bytes 1 missing
 column 7 B 1 at 24 bytes 1 missing
 column 8 PE 1 at 25 bytes 8 missing
 column 9 QD 1 at 33 bytes 16 missing
-column 10 PX 2 at 49 bytes 8 missing
-column 11 PM 0 at 57 bytes 8 missing
-column 12 QC 0 at 65 bytes 16 missing
-column 13 PA 9 at 81 bytes 8 missing
-column 14 X 0 at 89 bytes 0 missing
-column 15 X 1 at 89 bytes 1 missing
-column 16 X 7 at 90 bytes 1 missing
-column 17 X 8 at 91 bytes 1 missing
-column 18 X 9 at 92 bytes 2 missing
-column 19 X 15 at 94 bytes 2 missing
-column 20 X 16 at 96 bytes 2 missing
-column 21 X 17 at 98 bytes 3 missing
-column 22 X 64 at 101 bytes 8 missing
-column 23 X 65 at 109 bytes 9 missing
+column 10 PX 1 at 49 bytes 8 missing
+column 11 PM 0 at 57 bytes 0 missing
+column 12 QC 0 at 57 bytes 0 missing
+column 13 PA 1 at 57 bytes 8 missing
+column 14 X 0 at 65 bytes 0 missing
+column 15 X 1 at 65 bytes 1 missing
+column 16 X 7 at 66 bytes 1 missing
+column 17 X 8 at 67 bytes 1 missing
+column 18 X 9 at 68 bytes 2 missing
+column 19 X 15 at 70 bytes 2 missing
+column 20 X 16 at 72 bytes 2 missing
+column 21 X 17 at 74 bytes 3 missing
+column 22 X 64 at 77 bytes 8 missing
+column 23 X 65 at 85 bytes 9 missing
 name 0 to 24 empty
 find 0 to 2 none
 ''',
-    'the largest count of descriptors': '''
+    '`0PE` alone: rows of no bytes, a heap': '''
 accepted
-table 3 columns 1 rows 32 bytes 0 pcount 32 theap
-column 0 PE 8388608 at 0 bytes 8 missing
-column 1 QX 8388608 at 8 bytes 16 missing
-column 2 PI 8388607 at 24 bytes 8 missing
-name 0 to 3 empty
+table 1 columns 7 rows 0 bytes 5 pcount 0 theap
+column 0 PE 0 at 0 bytes 0 stretch 731 3
+name 0 full 80 79 83
+name 0 cut 80 79 83
+name 1 full
+name 1 cut
+find 0 full 0
+find 0 cut 0
+find 1 to 2 none
+''',
+    '`0QD` alone, no rows': '''
+accepted
+table 1 columns 0 rows 0 bytes 0 pcount 0 theap
+column 0 QD 0 at 0 bytes 0 stretch 731 2
+name 0 full 87 84
+name 0 cut
+name 1 full
+name 1 cut
+find 0 to 0 none
+find 1 full 0
+find 1 cut none
+find 2 to 2 none
+''',
+    'empty descriptors first, side by side between others, and last; cut at the end of POS': '''
+accepted
+table 6 columns 2 rows 6 bytes 0 pcount 12 theap
+column 0 PE 0 at 0 bytes 0 stretch 1131 2
+column 1 I 1 at 0 bytes 2 stretch 1211 3
+column 2 QD 0 at 2 bytes 0 stretch 1291 0
+column 3 PX 0 at 2 bytes 0 missing
+column 4 J 1 at 2 bytes 4 stretch 1371 2
+column 5 PE 0 at 6 bytes 0 stretch 1451 3
+name 0 full 78 79
+name 0 cut 78 79
+name 1 full 80 79 83
+name 1 cut 80 79 83
+name 2 to 3 empty
+name 4 full 87 84
+name 4 cut
+name 5 full 65 70 84
+name 5 cut
+name 6 to 6 empty
+find 0 full 0
+find 0 cut 0
+find 1 full 1
+find 1 cut 1
+find 2 full 4
+find 2 cut none
+find 3 full 5
+find 3 cut none
+find 4 full 2
+find 4 cut none
+find 5 to 6 none
+''',
+    'one descriptor and none in many digits': '''
+accepted
+table 10 columns 1 rows 64 bytes 0 pcount 64 theap
+column 0 PE 1 at 0 bytes 8 missing
+column 1 PE 1 at 8 bytes 8 missing
+column 2 PE 1 at 16 bytes 8 missing
+column 3 PE 1 at 24 bytes 8 missing
+column 4 PE 0 at 32 bytes 0 missing
+column 5 QD 0 at 32 bytes 0 missing
+column 6 QD 1 at 32 bytes 16 missing
+column 7 QX 0 at 48 bytes 0 missing
+column 8 QX 1 at 48 bytes 16 missing
+column 9 PA 0 at 64 bytes 0 missing
+name 0 to 10 empty
+find 0 to 2 none
+''',
+    '8: `2PE` alone, with the bytes of two': '''
+refused 8 1
+table 0 columns 0 rows 0 bytes 0 pcount 0 theap
+name 0 full
+name 0 cut
 find 0 to 2 none
 ''',
     'names of all kinds; cut at the end of the one with a quote': '''
@@ -1331,10 +1450,10 @@ def self_check():
 
 def main():
     if len(sys.argv) == 3:
-        write(random_cases(int(sys.argv[1]), LIMIT - 1), sys.argv[2])
+        write(random_cases(int(sys.argv[1]), LIMIT - 1), sys.argv[2], LIMIT)
         return
     here = os.path.dirname(os.path.abspath(__file__))
-    write(named(), os.path.join(here, '..', 'crates', 'layout_cases'))
+    write(named(), os.path.join(here, '..', 'crates', 'layout_cases'), MOST_NAMED)
 
 
 if __name__ == '__main__':

@@ -595,11 +595,11 @@ def table_cases():
              b"table 6 columns 0 rows 6 bytes\ncolumn 0 B 1 at 0 -\ncolumn 1 B 1 at 1 -\ncolumn 2 B 1 at 2 -\n"
              b"column 3 B 1 at 3 -\ncolumn 4 B 1 at 4 ''\ncolumn 5 B 1 at 5 " + b'N' * 68 + b'\nend 0\n', ''),
         case('counts of forms, with rests, of no rows',
-             small(['PE(20)', '0PI', '8388608QI', '12X', '007I', 'E', '0M', '0X', '1Azz'], [],
+             small(['PE(20)', '0PI', '001QI', '12X', '007I', 'E', '0M', '0X', '1Azz'], [],
                    names=['a', 'b', 'c', 'd', 'e', 'f', 'g', 'h', 'i']), b'',
-             'table 9 columns 0 rows 53 bytes\ncolumn 0 P 1 at 0 a\ncolumn 1 P 0 at 8 b\ncolumn 2 Q 8388608 at 16 c\n'
-             'column 3 X 12 at 32 d\ncolumn 4 I 7 at 34 e\ncolumn 5 E 1 at 48 f\ncolumn 6 M 0 at 52 g\n'
-             'column 7 X 0 at 52 h\ncolumn 8 A 1 at 52 i\nend 0\n', ''),
+             'table 9 columns 0 rows 45 bytes\ncolumn 0 P 1 at 0 a\ncolumn 1 P 0 at 8 b\ncolumn 2 Q 1 at 8 c\n'
+             'column 3 X 12 at 24 d\ncolumn 4 I 7 at 26 e\ncolumn 5 E 1 at 40 f\ncolumn 6 M 0 at 44 g\n'
+             'column 7 X 0 at 44 h\ncolumn 8 A 1 at 44 i\nend 0\n', ''),
         case('the largest count and start', small(['8388608X', '0B'], []), b'cell\n',
              'table 2 columns 0 rows 1048576 bytes\ncolumn 0 X 8388608 at 0 -\ncolumn 1 B 0 at 1048576 -\nend 0\n',
              'end\nat 0 0 0\n'),
@@ -641,6 +641,101 @@ def table_cases():
         case('the table and the steps of crates/replay', replayed_file(), replayed_steps(), None, replayed_text()),
         case('the same table, all columns', replayed_file(), b'cell\n' * 40),
     ]
+
+
+def empty_field_cases():
+    """Descriptors that are not there: P and Q of count 0, fields of no bytes and no cells."""
+    made = []
+    for form in ('0PE', '0QD'):
+        letter = form[1]
+        for setting in (b'', b'heap off\n'):
+            where = '%s, the heap %s' % (form, 'off' if setting else 'on')
+            alone = 'table 1 columns 2 rows 0 bytes\ncolumn 0 %s 0 at 0 NO\nend 0\n' % letter
+            first = 'table 2 columns 2 rows 2 bytes\ncolumn 0 %s 0 at 0 NO\ncolumn 1 I 1 at 0 POS\n' % letter
+            last = 'table 2 columns 2 rows 2 bytes\ncolumn 0 I 1 at 0 POS\ncolumn 1 %s 0 at 2 NO\n' % letter
+            between = ('table 3 columns 1 rows 6 bytes\ncolumn 0 I 1 at 0 POS\ncolumn 1 %s 0 at 2 -\n'
+                       'column 2 J 1 at 2 WT\n' % letter)
+            positions = [be(2, 100), be(2, -100)]
+            made += [
+                case('alone: ' + where, small([form], 2, names=['NO']),
+                     setting + b'row 0\ncell\nseek 1\nrow 1\nrow 0\n', alone,
+                     'row 0\nat 1 0 0\nend\nat 2 0 0\nseek 1\nat 1 0 0\nrow 0\nat 2 0 0\nend\nat 2 0 0\n'),
+                case('alone, no rows: ' + where, small([form], 0), setting + b'cell\nrow 0\nseek 0\n',
+                     'table 1 columns 0 rows 0 bytes\ncolumn 0 %s 0 at 0 -\nend 0\n' % letter,
+                     'end\nat 0 0 0\nend\nat 0 0 0\nrefused 12 0\nat 0 0 0\n'),
+                case('first: ' + where, small([form, '1I'], positions, names=['NO', 'POS']),
+                     setting + b'cell\nrow 0\nrow 1\ncell\n', first + 'cell 0 1 0 100\ncell 1 1 0 -100\nend 2\n',
+                     'cell 0 1 0 100\nat 1 0 1\nrefused 14 1\nat 1 0 1\nrow 1\ncell 1 1 0 -100\nat 2 0 2\nend\n'
+                     'at 2 0 2\n'),
+                case('last: ' + where, small(['1I', form], positions, names=['POS', 'NO']),
+                     setting + b'row 2\nrow 0\ncell\ncell\n', last + 'cell 0 0 0 100\ncell 1 0 0 -100\nend 2\n',
+                     'row 1\ncell 0 0 0 100\nat 1 0 1\nrefused 14 1\nat 1 0 1\ncell 1 0 0 -100\nat 2 0 2\nend\n'
+                     'at 2 0 2\n'),
+                case('between: ' + where, small(['1I', form, '1J'], [be(2, 7) + be(4, -7)], names=['POS', None, 'WT']),
+                     setting + b'row 1\ncell\nrow 1\nseek 0\nrow 2\n',
+                     between + 'cell 0 0 0 7\ncell 0 2 0 -7\nend 2\n',
+                     'refused 14 2\nat 0 0 0\ncell 0 0 0 7\nat 0 1 1\nrow 1\ncell 0 2 0 -7\nat 1 0 2\nseek 0\n'
+                     'at 0 0 2\nrow 2\ncell 0 0 0 7\ncell 0 2 0 -7\nat 1 0 4\n'),
+            ]
+    # the array of column 2 has two items, then ends a byte past the heap
+    beside = small(['0PB', '1B', '1PB', '0QB', '00QX(9)'], [b'\1' + p(2, 1), b'\2' + p(3, 1)], heap=b'\7\x08\x09')
+    listed = ('table 5 columns 2 rows 9 bytes\ncolumn 0 P 0 at 0 -\ncolumn 1 B 1 at 0 -\ncolumn 2 P 1 at 1 -\n'
+              'column 3 Q 0 at 9 -\ncolumn 4 Q 0 at 9 -\ncell 0 1 0 1\ncell 0 2 0 8\ncell 0 2 1 9\ncell 1 1 0 2\n'
+              'refused 13 2\n')
+    rest = 'row 0\nat 1 0 0\nrow 0\nat 2 0 0\nend\nat 2 0 0\nseek 0\nat 0 0 0\nend\nat 2 0 0\n'
+    return made + [
+        case('side by side beside arrays, one outside the heap', beside, b'row 2\nrow 3\ncell\ncell\nrow 9\n', listed,
+             'refused 14 3\nat 0 0 0\nrow 3\ncell 0 1 0 1\ncell 0 2 0 8\ncell 0 2 1 9\nat 1 0 3\ncell 1 1 0 2\n'
+             'at 1 1 4\nrefused 13 2\nat 1 1 4\nrefused 13 2\nat 1 1 4\n'),
+        case('side by side beside arrays, the heap off', beside, b'heap off\nrow 2\ncell\ncell\ncell\n', listed,
+             'row 2\ncell 0 1 0 1\ncell 0 2 0 2 1\nat 1 0 2\ncell 1 1 0 2\nat 1 1 3\ncell 1 2 0 3 1\nat 2 0 4\nend\n'
+             'at 2 0 4\n'),
+        case('an empty descriptor chosen alone, beside an array outside the heap', beside,
+             b'choose 3\nrow 0\nrow 1\nrow 2\nseek 0\ncell\n', listed, rest),
+        case('empty descriptors chosen, repeated, the heap off', beside,
+             b'heap off\nchoose 4 0 3 0 9\nrow 0\nrow 1\nrow 2\nseek 0\ncell\n', listed, rest),
+        case('empty descriptors left out', beside, b'choose 2 1\ncell\ncell\nrow 1\n', listed,
+             'cell 0 1 0 1\nat 0 1 1\ncell 0 2 0 8\nat 0 2 2\nrow 1\ncell 0 2 1 9\nat 1 0 3\n'),
+        case('an empty descriptor chosen with a column of bytes, twice each', beside,
+             b'choose 1 0 1 0\nrow 0\nrow 1\ncell\ncell\n', listed,
+             'refused 14 1\nat 0 0 0\nrow 1\ncell 0 1 0 1\nat 1 0 1\ncell 1 1 0 2\nat 2 0 2\nend\nat 2 0 2\n'),
+        case('no column left beside an empty descriptor', small(['0PE'], 1), b'choose 1\ncell\n',
+             'table 1 columns 1 rows 0 bytes\ncolumn 0 P 0 at 0 -\nend 0\n', 'refused 11 0\n'),
+        case('`0PE` and `0E`', small(['0PE', '0E'], 1, names=['P', 'E']), b'cell\nseek 0\nrow 0\nrow 0\n',
+             'table 2 columns 1 rows 0 bytes\ncolumn 0 P 0 at 0 P\ncolumn 1 E 0 at 0 E\nend 0\n',
+             'end\nat 1 0 0\nseek 0\nat 0 0 0\nrow 0\nat 1 0 0\nend\nat 1 0 0\n'),
+        case('`PE`, `1PE`, `PE(20)`, `00001PE`, `00PE`, `0PX`',
+             small(['PB', '1PB', 'PB(20)', '00001PB', '00PB', '0PX'], [p(1, 0) + p(1, 1) + p(0, 9) + p(2, 1)],
+                   heap=b'\7\x08\x09'), b'row 4\n',
+             'table 6 columns 1 rows 32 bytes\ncolumn 0 P 1 at 0 -\ncolumn 1 P 1 at 8 -\ncolumn 2 P 1 at 16 -\n'
+             'column 3 P 1 at 24 -\ncolumn 4 P 0 at 32 -\ncolumn 5 P 0 at 32 -\n'
+             'cell 0 0 0 7\ncell 0 1 0 8\ncell 0 3 0 8\ncell 0 3 1 9\nend 4\n',
+             'row 4\ncell 0 0 0 7\ncell 0 1 0 8\ncell 0 3 0 8\ncell 0 3 1 9\nat 1 0 4\n'),
+        case('16,777,216 rows of `0PE` and `0QD`', ended(table(['0PE', '0QD'], 0, rows=16777216)),
+             b'heap off\ncell\nseek 16777215\nrow 1\nrow 0\nseek 0\nrow 0\ncell\n',
+             'table 2 columns 16777216 rows 0 bytes\ncolumn 0 P 0 at 0 -\ncolumn 1 Q 0 at 0 -\nend 0\n',
+             'end\nat 16777216 0 0\nseek 16777215\nat 16777215 0 0\nrow 0\nat 16777216 0 0\nend\nat 16777216 0 0\n'
+             'seek 0\nat 0 0 0\nrow 0\nat 1 0 0\nend\nat 16777216 0 0\n'),
+    ]
+
+
+def above_one_cases():
+    """Counts above 1 before P and Q, and forms without an element: refusal 8 with the column, counted from 1. And rows
+    that have bytes for a descriptor of count 0."""
+    made = [
+        both('9: `0PE` alone, NAXIS1 8', ended(table(['0PE'], 8)) + bytes(8), b'cell\n', 'refused 9 0\n'),
+        both('9: `0QD` between others, NAXIS1 with 16 bytes more', ended(table(['1I', '0QD', '1J'], 22)) + bytes(22),
+             b'heap off\n', 'refused 9 0\n'),
+    ]
+    for form, bytes_of_one in (('2PE', 8), ('2QD', 16), ('8388608PE', 8), ('002PX(9)', 8), ('2P', 8), ('0P', 0),
+                               ('0PZ', 0)):
+        for taken in sorted({0, bytes_of_one, 2 * bytes_of_one}):
+            for n, forms in ((1, [form]), (1, [form, '1I']), (2, ['1I', form]), (2, ['0QD', form, '1I', '3PE'])):
+                naxis1 = taken + 2 * forms.count('1I')
+                made.append(both('8: %s as column %d of %d, NAXIS1 %d' % (form, n, len(forms), naxis1),
+                                 ended(table(forms, naxis1)) + bytes(naxis1), b'choose 9\nheap off\ncell\n',
+                                 'refused 8 %d\n' % n))
+    return made
 
 
 # Lines that are bad wherever they stand. A carriage return, a tab and byte 0 are bytes of their line.
@@ -770,7 +865,8 @@ def step_cases():
 
 
 def named():
-    return file_cases() + refusal_cases() + table_cases() + line_cases() + step_cases()
+    return (file_cases() + refusal_cases() + table_cases() + empty_field_cases() + above_one_cases() + line_cases()
+            + step_cases())
 
 
 # ---- random cases ----
@@ -799,7 +895,8 @@ def random_cards(rng, header):
 
 
 VALUES = ['', '0', '-1', '1', '2', '3', '8', '65', '999', '1000', '1048577', '16777217', '2147483648', '9' * 19, "'8'",
-          "'BINTABLE'", "'IMAGE'", "'3Z'", "' 1E'", "'1I'", "'PZ'", "'8388609A'", "'it's'", 'T']
+          "'BINTABLE'", "'IMAGE'", "'3Z'", "' 1E'", "'1I'", "'PZ'", "'8388609A'", "'it's'", 'T', "'0PE'", "'0QX'",
+          "'2PE'", "'2QD'", "'1PB'"]
 
 
 def spoiled(rng, cards):
@@ -972,7 +1069,7 @@ def self_check():
         for word, by_hand, said in zip(('cells', 'replay'), (one.cells, one.replay), texts_of(one)):
             assert by_hand in (None, said), '%s, %s: %r' % (word, one.why, said[:400])
     assert cells_text(EXAMPLE) == EXAMPLE_TEXT
-    for one in table_cases():
+    for one in table_cases() + empty_field_cases():
         if not one.why.startswith('16,777,216 rows'):
             assert walked(one.table) == cells_text(one.table), one.why
     for crate in BUNDLES:

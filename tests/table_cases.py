@@ -35,6 +35,9 @@ KEPT = 24
 LARGEST_COUNT = 4294967295
 MOST_CELLS = 512
 
+# the cases by name stay below this, so that the repository stays small; the program reads any length
+MOST_NAMED = 114688
+
 # ---- the plain list ----
 
 Cell = collections.namedtuple('Cell', 'row column idx kind value')
@@ -84,6 +87,9 @@ def field_entries(layout, area, heap, row, c):
     if letter not in DESCRIPTOR:
         values = run_of(area, letter, start, item_count(letter, column.count))
         return [Cell(row, c, i, letter, value) for i, value in enumerate(values)]
+    if column.count == 0:
+        # no descriptor: an empty field, whether the heap is on or off
+        return []
     half = DESCRIPTOR[letter] // 2
     count, offset = number(area[start:start + half]), number(area[start + half:start + 2 * half])
     if not heap:
@@ -325,24 +331,25 @@ def flat(of):
     return of if isinstance(of, bytes) else b''.join(of)
 
 
-def header_of(forms, rows, pcount, gap):
+def header_of(forms, rows, pcount, gap, written=None):
+    """NAXIS1 is that of `forms`; `written`, if given, stands in the header in their place."""
     naxis1 = sum(field_bytes(form) for form in forms)
     theap = None if gap is None else naxis1 * rows + gap
-    return ended(table(forms, naxis1, rows=rows, pcount=pcount, theap=theap))
+    return ended(table(written or forms, naxis1, rows=rows, pcount=pcount, theap=theap))
 
 
 def case(why, said, forms, rows, steps, heap=b'', gap=None, extra=b'', indexes=None, follow=True, other=b'',
-         opening=WHOLE, short=0):
+         opening=WHOLE, short=0, written=None):
     """What it is for; its answers by hand (None where that is long); the forms, the rows (a number of rows of no bytes,
     or the bytes of each), the steps; what follows the rows up to PCOUNT, and THEAP's distance from the main size (None
     for no THEAP); bytes after it, the choice (None for all), whether the heap is on, the second area, what the opening
-    is lent, by how many bytes the first area is too short."""
+    is lent, by how many bytes the first area is too short, the forms as the header has them where they are bad."""
     rows = [b''] * rows if isinstance(rows, int) else [flat(row) for row in rows]
     naxis1 = sum(field_bytes(form) for form in forms)
     assert all(len(row) == naxis1 for row in rows), why
     area = b''.join(rows) + heap + extra
     area = area[:len(area) - short]
-    return Case(why, said, header_of(forms, len(rows), len(heap), gap), area, other, indexes, follow, opening,
+    return Case(why, said, header_of(forms, len(rows), len(heap), gap, written), area, other, indexes, follow, opening,
                 flagged(random.Random(why), steps))
 
 
@@ -447,9 +454,9 @@ def heap_cases():
             made.append(case('%s of every letter, heap %s' % (letter, 'on' if follow else 'off'), None, forms,
                              [one, none, two], reads(40), heap=heap, follow=follow))
     made += [
-        case('`0PI`, `3PI`, `8388608QI`: one descriptor each', '513 1027 1541 2055 end', ['0PI', '3PI', '8388608QI'],
+        case('`PI`, `00001PI(9)`, `QI`: one descriptor each', '513 1027 1541 2055 end', ['PI', '00001PI(9)', 'QI'],
              [p(1, 0) + p(1, 2) + q(2, 4)], reads(5), heap=be(1, 2, 1, 4, 3, 6, 5, 8, 7)),
-        case('one descriptor each, the heap off', '1,0 1,2 2,4 end', ['0PI', '3PI', '8388608QI'],
+        case('one descriptor each, the heap off', '1,0 1,2 2,4 end', ['PI', '00001PI(9)', 'QI'],
              [p(1, 0) + p(1, 2) + q(2, 4)], reads(4), heap=be(1, 2, 1, 4, 3, 6, 5, 8, 7), follow=False),
         case('count 0 with any offset', 'end end', ['1PB', '1QM', '1PX', '1QX'],
              [p(0, FAR) + q(0, ALL64) + p(0, 0) + q(0, 2 ** 63)] * 2, reads(2), heap=b'abc'),
@@ -879,15 +886,113 @@ def row_place_cases():
     ]
 
 
+def empty_field_cases():
+    """P and Q of count 0, which are fields of no bytes and no entries. At the end a count of 2, a bad form, in the
+    header of a table that is sound with count 1."""
+    made = []
+    for form in ('0PE', '0QD'):
+        for follow in (True, False):
+            where = ', the heap %s' % ('on' if follow else 'off')
+            for place, forms in (('first', [form, '1I']), ('last', ['1I', form])):
+                made.append(case('`%s` %s%s' % (form, place, where),
+                                 '10 20 end sought row:1[20] sought 14:1 row:1[10;_]', forms, [be(2, 10), be(2, 20)],
+                                 reads(3) + seek(1) + row_reads(1) + seek(0) + row_reads(0) + row_reads(2),
+                                 follow=follow))
+            made += [
+                case('`%s` between others%s' % (form, where), '10 11 20 21 end sought row:2[20;21] sought 14:2[_] '
+                     'row:2[10;11;_]', ['1I', form, '1J'], [be(2, 10) + be(4, 11), be(2, 20) + be(4, 21)],
+                     reads(5) + seek(1) + row_reads(2) + seek(0) + row_reads(1) + row_reads(3), follow=follow),
+                case('`%s` alone%s' % (form, where), 'end end sought row:0[_] row:0 end[_;_] 12:3 sought end', [form],
+                     3, reads(2) + seek(1) + row_reads(1) + row_reads(0) + row_reads(2) + seek(3) + seek(2) + reads(),
+                     heap=b'abc', follow=follow),
+            ]
+    # the entries of a row are 4, 2 and 3; with the heap off 3 each
+    among, heap = ['0PE', '1B', '1PB', '0QD', '0PX', '1B', '00PB(7)'], be(1, 7, 8, 9)
+    rows = [b'\x01' + p(2, 0) + b'\x02', b'\x03' + p(0, 5) + b'\x04', b'\x05' + p(1, 2) + b'\x06']
+    before, before_row = ['0PB', '1PB', '0QB', '1B'], [p(9, 0) + b'\x05']
+    chosen, chosen_rows = ['1B', '0PE', '1PB', '0QM'], [bytes([n]) + p(9, n) for n in (1, 2, 3)]
+    nothing = row_reads(0) + row_reads(1) + row_reads(2) + row_reads(0) + seek(1) + reads() + seek(0) + reads(2)
+    elements = ['0P' + letter for letter in LETTERS] + ['0Q' + letter for letter in LETTERS]
+    return made + [
+        case('`0PE` alone, no rows', 'end 12:0 end[_] end', ['0PE'], 0,
+             reads() + seek(0) + row_reads(1) + row_reads(0)),
+        case('places in a table of `0QD`',
+             'put 10:0 10:0[_] 10:0 put row:0 row:0[_] end[_] put row:0 put end put 10:0', ['0QD'], 3,
+             put(1, 1) + reads() + row_reads(1) + seek(0) + put(1, 0, 4) + row_reads(0) + row_reads(1) + row_reads(1)
+             + put(0, 0, LARGEST_COUNT) + row_reads(0) + put(3, 0) + reads() + put(3, 1) + reads()),
+        case('100,000 rows of `0PK` and `0E`', 'end sought row:0 row:0[_] end sought end', ['0PK', '0E'], 100000,
+             reads() + seek(99998) + row_reads(0) + row_reads(1) + row_reads(0) + seek(0) + reads()),
+        case('`0PE`, `0QD` and `0E` side by side, the heap off', 'row:0 row:0 end sought row:0[_] 12:2',
+             ['0PE', '0QD', '0E'], 2, row_reads(0, 2) + reads() + seek(1) + row_reads(1) + seek(2), follow=False),
+        case('P and Q of count 0 with every element letter, then a byte', '1 2 end sought row:1[2]', elements + ['1B'],
+             [b'\x01', b'\x02'], reads(3) + seek(1) + row_reads(1)),
+        case('no byte is needed for `0PE`, nor lent', 'row:0 row:0[_] end', ['0PE'], 2,
+             row_reads(0, of=first(0)) + row_reads(1, of=first(0)) + reads(1, first(0)), extra=b'abc',
+             opening=first(0)),
+        case('a byte is needed beside `0PE`', '10:0 1 10:0 row:1[2] end', ['1B', '0PE'], [b'\x01', b'\x02'],
+             reads(1, first(1)) + reads() + row_reads(0, of=first(1)) + row_reads(1) + reads()),
+        case('empty descriptors among others, heap on', '1 7 8 2 3 4 5 9 6 end', among, rows, reads(10), heap=heap),
+        case('empty descriptors among others, heap off', '1 2,0 2 3 0,5 4 5 1,2 6 end', among, rows, reads(10),
+             heap=heap, follow=False),
+        case('row reads of these, heap on', 'row:4[1;7;8;2] 14:2[_] 14:2 row:2[3;4] row:3[5;9;6;_] end[_] sought 1 7 '
+             '14:2[_] row:2[8;2]', among, rows,
+             row_reads(4) + row_reads(1) + row_reads(0) + row_reads(2) + row_reads(4) + row_reads(1) + seek(0)
+             + reads(2) + row_reads(1) + row_reads(2), heap=heap),
+        case('row reads of these, heap off', 'row:3[1;2,0;2] 14:3[_;_] row:3[3;0,5;4] 5 row:2[1,2;6] end', among, rows,
+             row_reads(3) + row_reads(2) + row_reads(3) + reads() + row_reads(2) + row_reads(0), heap=heap,
+             follow=False),
+        case('places among these, heap on', 'put row:2[8;2] put 2 3 row:1[4] put 10:0[_] put 10:0 put 14:1 row:1[6]',
+             among, rows, put(0, 2) + row_reads(2) + put(0, 3) + reads(2) + row_reads(1) + put(0, 4) + row_reads(1)
+             + put(1, 2) + reads() + put(2, 2, 7) + row_reads(0) + row_reads(1), heap=heap),
+        case('places among these, heap off', 'put 4 put 10:0 put row:2[1,2;6]', among, rows,
+             put(1, 2) + reads() + put(0, 3) + row_reads(0) + put(2, 1) + row_reads(2), heap=heap, follow=False),
+        case('a 13 behind an empty descriptor, heap on', '13:1 13:1 13:1[_] 13:1 put 5 end', before, before_row,
+             reads(2) + row_reads(1) + row_reads(0) + put(0, 1) + reads(2), heap=heap),
+        case('a 13 behind an empty descriptor, heap off', '9,0 5 end', before, before_row, reads(3), heap=heap,
+             follow=False),
+        case('a 13 behind an empty descriptor, its column not chosen', '5 end', before, before_row, reads(2),
+             heap=heap, indexes=[3, 2, 0]),
+        case('a 13 between empty descriptors, behind an array', '7 13:2 13:2[_;_] sought row:3[7;8;9] end',
+             ['1PB', '0PB', '1QB', '0QB'], [p(1, 0) + q(4, 0), p(0, 0) + q(3, 0)],
+             reads(2) + row_reads(2) + seek(1) + row_reads(3) + reads(), heap=heap),
+        case('a choice of an empty descriptor alone, heap on',
+             'row:0 row:0[_] row:0[_;_] end sought end sought end end', chosen, chosen_rows, nothing, heap=heap,
+             indexes=[1]),
+        case('a choice of empty descriptors, repeated, heap off',
+             'row:0 row:0[_] row:0[_;_] end sought end sought end end', chosen, chosen_rows, nothing, heap=heap,
+             indexes=[3, 1, 1, 3, 9], follow=False),
+        case('a choice that leaves the empty descriptors out', '1 9,1 2 9,2 3 9,3 end', chosen, chosen_rows, reads(7),
+             heap=heap, indexes=[0, 2], follow=False),
+        case('a choice of empty descriptors and a byte, repeated', '1 2 3 end sought row:1[2] sought 14:1', chosen,
+             chosen_rows, reads(4) + seek(1) + row_reads(1) + seek(2) + row_reads(0), heap=heap,
+             indexes=[3, 0, 1, 0, 1]),
+        case('no column left beside `0PE`', '11:0', ['0PE'], 1, reads(), indexes=[1, 64]),
+        case('other choices: empty descriptors, with a byte, without', 'put end sought put 1 put row:0 put 3 end',
+             chosen, chosen_rows, choose(1) + reads() + seek(0) + choose(0, 1, 3) + reads() + choose(1, 3)
+             + row_reads(0) + choose(0, 1) + reads(2), heap=heap),
+        case('row reads of another area, empty descriptors in both', '7 row:1[4;_;_;_] row:3[17;18;5] sought 7 8 '
+             '10:0[_;_;_;_] row:2[9;1;_;_] row:1[2]', before, [p(3, 0) + b'\x01', p(0, 0) + b'\x02'],
+             reads() + row_reads(4, of=OTHER) + row_reads(3, of=OTHER) + seek(0) + reads(2) + row_reads(4, of=OTHER)
+             + row_reads(4) + row_reads(1), heap=heap,
+             other=p(1, 2) + b'\x04' + p(2, 0) + b'\x05' + be(1, 17, 18, 19)),
+        case('`2PE` between others: the entry\'s 8', '', ['1I', '1PE', '1J'], [be(2, 10) + p(0, 0) + be(4, 11)],
+             reads(), written=['1I', '2PE', '1J']),
+        case('`2QD` last, behind `0PE`, the heap off: the entry\'s 8', '', ['1I', '0PE', '1QD'], [be(2, 10) + q(0, 0)],
+             reads(), written=['1I', '0PE', '2QD'], follow=False),
+    ]
+
+
 def named():
     """All of them."""
     return (value_cases() + heap_cases() + end_cases() + row_cases() + choice_cases() + seek_cases() + area_cases()
-            + place_cases() + row_read_cases() + row_heap_cases() + row_place_cases())
+            + place_cases() + row_read_cases() + row_heap_cases() + row_place_cases() + empty_field_cases())
 
 
 # ---- random cases ----
 
 COUNTS = ['', '', '0', '0', '1', '1', '1', '2', '3', '5', '8', '9', '17']
+ONE_OR_NONE = ['', '', '', '1', '1', '1', '1', '001', '0', '0', '00']
+ABOVE_ONE = ['2', '2', '3', '8', '9', '16', '002', '8388607', '8388608']
 EDGES = {
     1: [0, 1, 70, 84, 84, 127, 128, 255],
     2: [0, 1, 2 ** 15 - 1, 2 ** 15, 2 ** 16 - 1, 256],
@@ -942,16 +1047,28 @@ def random_descriptor(rng, form, room, clean):
 def random_form(rng, style):
     letter = rng.choice(('PQ' if style == 'arrays' else 'LXBIJKAEDCMPQPQ'))
     rest = rng.choice(['', '', '', '(9)', ' x'])
-    digits = rng.choice(['0'] if style == 'empty' and letter not in 'PQ' else COUNTS)
     if letter in 'PQ':
+        digits = rng.choice(ONE_OR_NONE + ['0'] * 6 if style == 'empty' else ONE_OR_NONE)
         return digits + letter + rng.choice(LETTERS) + rest
+    digits = rng.choice(['0'] if style == 'empty' else COUNTS)
     if letter in 'LBA' and rng.randrange(25) == 0:
         digits = rng.choice(['25', '26', '100', '500', '511', '512', '513', '600'])
     return digits + letter + rest
 
 
+def above_one(rng, forms):
+    """The forms with more than one descriptor in a field of P or Q, if there is one."""
+    places = [c for c, form in enumerate(forms) if form_of(text(form))[0][0] in DESCRIPTOR]
+    if not places:
+        return None
+    c = rng.choice(places)
+    return forms[:c] + [rng.choice(ABOVE_ONE) + forms[c].lstrip('01')] + forms[c + 1:]
+
+
 def random_field(rng, of, room, clean, sparse):
     form, count, size = form_of(text(of))
+    if size == 0:
+        return b''
     if form[0] in DESCRIPTOR:
         if rng.random() < sparse:
             return (p if form[0] == 'P' else q)(0, rng.randrange(2 ** 32))
@@ -1030,7 +1147,7 @@ def random_case(rng):
     other = b''
     if rng.randrange(3) == 0:
         other = random_rows(rng, forms, rows, room, clean) + heap[::-1] + bytes(rng.choice([0, 0, 1, 5]))
-    header = header_of(forms, rows, pcount, gap)
+    header = header_of(forms, rows, pcount, gap, above_one(rng, forms) if rng.randrange(30) == 0 else None)
     area += bytes(rng.choice([0, 0, 0, 1, 20]))
     if rng.randrange(40) == 0:
         area = area[:max(0, len(area) - rng.choice([1, 2, 21]))]
@@ -1164,7 +1281,7 @@ at 2 0 4
 end
 at 2 0 4
 ''',
-    '`0PI`, `3PI`, `8388608QI`: one descriptor each': '''
+    '`PI`, `00001PI(9)`, `QI`: one descriptor each': '''
 accepted
 opened
 at 0 0 0
@@ -1218,6 +1335,144 @@ cell 5 0 2 X 3
 at 6 0 10
 end
 at 6 0 10
+''',
+    '`0PE` first, the heap off': '''
+accepted
+opened
+at 0 0 0
+cell 0 1 0 I 10
+at 1 0 1
+cell 1 1 0 I 20
+at 2 0 2
+end
+at 2 0 2
+sought
+at 1 0 2
+row 1
+at 2 0 3
+list 0 cell 1 1 0 I 20
+sought
+at 0 0 3
+refused 14 1
+at 0 0 3
+row 1
+at 1 0 4
+list 0 cell 0 1 0 I 10
+list 1 cell 999 99 9 X 165
+''',
+    '`0QD` between others, the heap on': '''
+accepted
+opened
+at 0 0 0
+cell 0 0 0 I 10
+at 0 1 1
+cell 0 2 0 J 11
+at 1 0 2
+cell 1 0 0 I 20
+at 1 1 3
+cell 1 2 0 J 21
+at 2 0 4
+end
+at 2 0 4
+sought
+at 1 0 4
+row 2
+at 2 0 6
+list 0 cell 1 0 0 I 20
+list 1 cell 1 2 0 J 21
+sought
+at 0 0 6
+refused 14 2
+at 0 0 6
+list 0 cell 999 99 9 X 165
+row 2
+at 1 0 8
+list 0 cell 0 0 0 I 10
+list 1 cell 0 2 0 J 11
+list 2 cell 999 99 9 X 165
+''',
+    '`0PE` alone, the heap off': '''
+accepted
+opened
+at 0 0 0
+end
+at 3 0 0
+end
+at 3 0 0
+sought
+at 1 0 0
+row 0
+at 2 0 0
+list 0 cell 999 99 9 X 165
+row 0
+at 3 0 0
+end
+at 3 0 0
+list 0 cell 999 99 9 X 165
+list 1 cell 999 99 9 X 165
+refused 12 3
+at 3 0 0
+sought
+at 2 0 0
+end
+at 3 0 0
+''',
+    'empty descriptors among others, heap on': '''
+accepted
+opened
+at 0 0 0
+cell 0 1 0 B 1
+at 0 1 1
+cell 0 2 0 B 7
+at 0 2 2
+cell 0 2 1 B 8
+at 0 3 3
+cell 0 5 0 B 2
+at 1 0 4
+cell 1 1 0 B 3
+at 1 1 5
+cell 1 5 0 B 4
+at 2 0 6
+cell 2 1 0 B 5
+at 2 1 7
+cell 2 2 0 B 9
+at 2 2 8
+cell 2 5 0 B 6
+at 3 0 9
+end
+at 3 0 9
+''',
+    'a choice of empty descriptors, repeated, heap off': '''
+accepted
+opened
+at 0 0 0
+row 0
+at 1 0 0
+row 0
+at 2 0 0
+list 0 cell 999 99 9 X 165
+row 0
+at 3 0 0
+list 0 cell 999 99 9 X 165
+list 1 cell 999 99 9 X 165
+end
+at 3 0 0
+sought
+at 1 0 0
+end
+at 3 0 0
+sought
+at 0 0 0
+end
+at 3 0 0
+end
+at 3 0 0
+''',
+    '`2PE` between others: the entry\'s 8': '''
+refused 8 2
+''',
+    '`2QD` last, behind `0PE`, the heap off: the entry\'s 8': '''
+refused 8 3
 ''',
     'a 13 behind empty rows: nothing moves, not even past them': '''
 accepted
@@ -1515,7 +1770,7 @@ def main():
         write(random_cases(int(sys.argv[1]), LIMIT - 1), sys.argv[2], LIMIT)
         return
     here = os.path.dirname(os.path.abspath(__file__))
-    write(named(), os.path.join(here, '..', 'crates', 'table_cases'), 98304)
+    write(named(), os.path.join(here, '..', 'crates', 'table_cases'), MOST_NAMED)
 
 
 if __name__ == '__main__':

@@ -207,9 +207,14 @@ refused 's/^NAXIS1.*/NAXIS1  = 1048577/' "7 3: $(value NAXIS1 3 'above the limit
 refused 's/^NAXIS2.*/NAXIS2  = 16777217/' "7 4: $(value NAXIS2 4 'above the limit of this reader, 16,777,216')"
 refused 's/^PCOUNT.*/PCOUNT  = 2147483648/' "7 5: $(value PCOUNT 5 'above the limit of this reader, 2,147,483,647')"
 refused 's/^TFIELDS.*/TFIELDS = 65/' "7 7: $(value TFIELDS 7 'above the limit of this reader, 64')"
-form='a count of 8,388,608 at most or none, then a letter of L X B A I J E K D C M, or P or Q'
-refused 's/1J/3Z/' "8 2: TFORM2 is no form that can be read: $form and then one of these letters"
+form='a form is a count of 8,388,608 at most, or none, and a letter of L X B A I J E K D C M'
+form="$form; or a count of 0 or 1, or none, then P or Q and then one of these letters"
+refused 's/1J/3Z/' "8 2: TFORM2 is no form that can be read: $form"
+refused 's/1J/2PE/' "8 2: TFORM2 is no form that can be read: $form"
 refused 's/1J/1I/' '9 0: the bytes of the columns do not add up to NAXIS1'
+none='the bytes of the columns do not add up to NAXIS1; a field of P or Q with count 0 takes none'
+refused 's/1J/0PE/' "9 0: $none"
+refused 's/1J/00QD/' "9 0: $none"
 need='the data need NAXIS1 x NAXIS2 + PCOUNT bytes'
 refused 's/^NAXIS2.*/NAXIS2  = 3/' "10 0: the file is shorter than its header says: $need"
 table large.fits 's/^NAXIS2.*/NAXIS2  = 10443/'
@@ -233,6 +238,11 @@ table odd.fits "s/'POS'/'~refused 4 0'/"
 LC_ALL=C tr '~' '\n' <"$work/odd.fits" >"$work/line.fits"
 wants cells line.fits
 expect 0 '' cells line.fits
+
+# a field of P without a descriptor
+table without.fits "s/1J/0PE/;s/^NAXIS1.*/NAXIS1  = 2/"
+wants cells without.fits
+expect 0 '' cells without.fits
 
 # openings that are refused, and a cell: the lines before it are there
 no_column='11 0: no column is left in the choice: the table has none, or none of the chosen indexes'

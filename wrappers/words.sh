@@ -17,6 +17,14 @@ first_missing() { # TABLE
         }'
 }
 
+# Whether a record before END has a form of P or Q with count 0.
+empty_descriptor() { # TABLE
+    LC_ALL=C tr -c ' -~' '?' <"$1" | LC_ALL=C fold -b -w 80 | LC_ALL=C awk -v "form== +'00*[PQ]" '
+        length($0) == 80 && /^END *$/ { exit }
+        /^TFORM[1-9]/ && $0 ~ form { found = 1; exit }
+        END { exit !found }'
+}
+
 # A whole FITS file begins with the record SIMPLE.
 whole_file() { # TABLE
     [ "$(head -c 10 "$1" | LC_ALL=C tr -c ' -~' '?')" = 'SIMPLE  = ' ]
@@ -78,10 +86,17 @@ words() { # NUMBER PLACE TABLE
     6) echo "the value of $used, in $at, is not allowed: $(wanted_value "$used")" ;;
     7) echo "the value of $used, in $at, is above the limit of this reader, $(limit_of "$used")" ;;
     8)
-        say_all "TFORM$2 is no form that can be read: a count of 8,388,608 at most or none, then a letter of " \
-            'L X B A I J E K D C M, or P or Q and then one of these letters'
+        say_all "TFORM$2 is no form that can be read: a form is a count of 8,388,608 at most, or none, and a " \
+            'letter of L X B A I J E K D C M; or a count of 0 or 1, or none, then P or Q and then one of these ' \
+            'letters'
         ;;
-    9) echo 'the bytes of the columns do not add up to NAXIS1' ;;
+    9)
+        if empty_descriptor "$3"; then
+            echo 'the bytes of the columns do not add up to NAXIS1; a field of P or Q with count 0 takes none'
+        else
+            echo 'the bytes of the columns do not add up to NAXIS1'
+        fi
+        ;;
     10)
         if [ "$(wc -c <"$3")" -gt 65536 ]; then
             echo 'the table needs more than the first 65,536 bytes of the file, and no more are read'

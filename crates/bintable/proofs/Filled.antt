@@ -119,15 +119,15 @@ module _ (h : List ℕ) where
       (set_at (columnsTo k) noColumn (replicate (64 - (k + 1)) noColumn) (next k) k (columns-length 0 1 k)
       ∙ sym (append_assoc (columnsTo k) (next k ∷ []) (replicate (64 - (k + 1)) noColumn)))
 
-  column-bound : (at n : ℕ) → columnBytes (columnOf at n) ≤ 134217744
+  column-bound : (at n : ℕ) → columnBytes (columnOf at n) ≤ 134217728
   column-bound at n = omega (arith, field-bytes-bound (columnOf at n).form (columnOf at n).count, count-bound (columnOf at n).form (columnOf at n).count (form-count (textIn h (valueAt h (tformOf h n)))))
 
-  from-bound : (at n k : ℕ) → rowBytes (columnsFrom h at n k) ≤ k * 134217744
+  from-bound : (at n k : ℕ) → rowBytes (columnsFrom h at n k) ≤ k * 134217728
   unfolding columnsFrom rowBytes
   from-bound at n zero = omega arith
   from-bound at n (suc k) = omega (arith, column-bound at n, from-bound (at + columnBytes (columnOf at n)) (suc n) k)
 
-  pub bytes-bound : (k : ℕ) → rowBytes (columnsTo k) ≤ k * 134217744
+  pub bytes-bound : (k : ℕ) → rowBytes (columnsTo k) ≤ k * 134217728
   bytes-bound k = from-bound 0 1 k
 
   -- a stretch of the header fits 32 bits

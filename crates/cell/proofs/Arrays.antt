@@ -1,11 +1,11 @@
--- The three answers of `array`, each from what the function has tested.
+-- The two answers of `array` at a count of 1 or more, each from what the function has tested.
 -- Assumes nothing.
 use Prim.Native.Nat.{ℕ, ◌+◌, ◌-◌, ◌*◌, ◌/◌, ◌≤◌, ◌<◌}
 use mathlib.Core.Path.{◌≡◌}
 use mathlib.Core.Logic.{◌≢◌}
 use native.Mathlib.Nat.{div-lt_iff_lt-mul, le-div_iff_mul-le}
 use native.Mathlib.Omega.{arith}
-use borrow.Author.Tests.{eq-eqb, ne_eqb, le-leb, lt-leb}
+use borrow.Author.Tests.{ne_eqb, le-leb, lt-leb}
 use Rattle.tform.specs.declared.VariableArrayTy.{VariableArrayTy}
 use Rattle.tform.specs.Width.{items}
 use Rattle.cell.specs.declared.Field.TheVariants.{Items, OutsideHeap}
@@ -14,10 +14,6 @@ use Rattle.cell.specs.Field.{array}
 use Rattle.cell.proofs.Widths.{width-pos}
 
 module _ (theap end : ℕ) (ty : VariableArrayTy) (n o : ℕ) where
-  pub array-none : n ≡ 0 → Items ty 0 0 ≡ array theap end ty n o
-  unfolding array
-  array-none h = rw (eq-eqb n 0 h)
-
   pub array-sound : n ≢ 0 → theap + o + items ty n * width ty ≤ end → Items ty (theap + o) (items ty n) ≡ array theap end ty n o
   unfolding array
   array-sound h s = rw (ne_eqb n 0 h, le-leb (theap + o + items ty n * width ty) end s)

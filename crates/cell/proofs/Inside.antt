@@ -32,9 +32,11 @@ by_form : (a : List ℕ) (p : ℕ) (f : TFormType) (n : ℕ) (heap : Bool) (thea
 unfolding field32 field64
 by_form a p (F.Items ty) n heap theap end h = h
 by_form a p (F.P ty) n heap theap end h =
-    by-test (ItemsInside end) heap (λ t. array-inside theap end ty (word a p 4) (word a (p + 4) 4)) (λ t. tt)
+    by-test (ItemsInside end) (eqb n 0) (λ z. omega arith)
+    (λ z. by-test (ItemsInside end) heap (λ t. array-inside theap end ty (word a p 4) (word a (p + 4) 4)) (λ t. tt))
 by_form a p (F.Q ty) n heap theap end h =
-    by-test (ItemsInside end) heap (λ t. array-inside theap end ty (word a p 8) (word a (p + 8) 8)) (λ t. tt)
+    by-test (ItemsInside end) (eqb n 0) (λ z. omega arith)
+    (λ z. by-test (ItemsInside end) heap (λ t. array-inside theap end ty (word a p 8) (word a (p + 8) 8)) (λ t. tt))
 
 -- a field that lies before `end` has its items there
 pub field-inside : (a : List ℕ) (p : ℕ) (column : Column) (heap : Bool) (theap end : ℕ) → p + columnBytes column ≤ end
@@ -62,8 +64,10 @@ field-bound a p column heap theap end = by-form-bound column.form column.count
     by-form-bound : (f : TFormType) (n : ℕ) → sizeOf (fieldBy a p f n heap theap end) ≤ fieldBytes f n + end + 1
     by-form-bound (F.Items ty) n = omega (arith, mul-le-mul_left (items ty n) (width-pos ty))
     by-form-bound (F.P ty) n =
-        by-test (λ (f : Field). sizeOf f ≤ fieldBytes (F.P ty) n + end + 1) heap
-        (λ t. omega (arith, size-bound end (array theap end ty (word a p 4) (word a (p + 4) 4)) (array-inside theap end ty (word a p 4) (word a (p + 4) 4)))) (λ t. omega arith)
+        by-test (λ (f : Field). sizeOf f ≤ fieldBytes (F.P ty) n + end + 1) (eqb n 0) (λ z. omega arith)
+        (λ z. by-test (λ (f : Field). sizeOf f ≤ fieldBytes (F.P ty) n + end + 1) heap
+        (λ t. omega (arith, size-bound end (array theap end ty (word a p 4) (word a (p + 4) 4)) (array-inside theap end ty (word a p 4) (word a (p + 4) 4)))) (λ t. omega arith))
     by-form-bound (F.Q ty) n =
-        by-test (λ (f : Field). sizeOf f ≤ fieldBytes (F.Q ty) n + end + 1) heap
-        (λ t. omega (arith, size-bound end (array theap end ty (word a p 8) (word a (p + 8) 8)) (array-inside theap end ty (word a p 8) (word a (p + 8) 8)))) (λ t. omega arith)
+        by-test (λ (f : Field). sizeOf f ≤ fieldBytes (F.Q ty) n + end + 1) (eqb n 0) (λ z. omega arith)
+        (λ z. by-test (λ (f : Field). sizeOf f ≤ fieldBytes (F.Q ty) n + end + 1) heap
+        (λ t. omega (arith, size-bound end (array theap end ty (word a p 8) (word a (p + 8) 8)) (array-inside theap end ty (word a p 8) (word a (p + 8) 8)))) (λ t. omega arith))

@@ -8,3 +8,4 @@ pub mod Arrays
 pub mod Values
 pub mod Items
 pub mod Inside
+pub mod Empty

@@ -2,11 +2,14 @@
 -- Assumes nothing.
 use Prim.Native.Nat.{ℕ, zero, suc, ◌+◌, ◌*◌, ◌≤◌, ◌<◌}
 use mathlib.Core.Path.{◌≡◌, refl, ap, ap₂}
-use mathlib.Core.Bool.{Bool}
+use mathlib.Core.Bool.{Bool, false}
 use mathlib.Core.List.{List}
 use native.Mathlib.Omega.{arith}
+use lib.Dec.{eqb}
 use lib.ListN.{get_or}
+use borrow.Author.Tests.{eqb-false}
 use Rattle.ascii.specs.Text.{bytes}
+use Rattle.ascii.proofs.Cases.{either}
 use Rattle.tform.specs.declared.VariableArrayTy.{VariableArrayTy}
 use Rattle.tform.specs.declared.VariableArrayTy.TheVariants as T
 use Rattle.tform.specs.declared.TFormType.{TFormType}
@@ -16,6 +19,10 @@ use Rattle.layout.specs.declared.Column.{Column}
 use Rattle.layout.specs.Layout.{columnBytes}
 use Rattle.cell.specs.Item.{word, width, rawItem, valueIn, item}
 use Rattle.cell.specs.Field.{field32, field64, fieldBy, field}
+
+some : (n : ℕ) → eqb n 0 ≡ false → 1 ≤ n
+some zero e = absurd (eqb-false 0 0 e refl)
+some (suc n) e = omega arith
 
 module _ (a b : List ℕ) where
   -- the two areas have the same k bytes from place p on
@@ -53,9 +60,15 @@ module _ (a b : List ℕ) where
   unfolding field32 field64 letterWidth among bytes
   by_form (F.Items ty) p n heap theap end h = refl
   by_form (F.P ty) p n heap theap end h =
-      rw (word_same p 4 (λ i l u. h i l (omega arith)), word_same (p + 4) 4 (λ i l u. h i (omega arith) (omega arith)))
+      either (eqb n 0) (λ z. rw z)
+      (λ z.
+      let there : 1 ≤ n = some n z in
+      rw (word_same p 4 (λ i l u. h i l (omega arith)), word_same (p + 4) 4 (λ i l u. h i (omega arith) (omega arith))))
   by_form (F.Q ty) p n heap theap end h =
-      rw (word_same p 8 (λ i l u. h i l (omega arith)), word_same (p + 8) 8 (λ i l u. h i (omega arith) (omega arith)))
+      either (eqb n 0) (λ z. rw z)
+      (λ z.
+      let there : 1 ≤ n = some n z in
+      rw (word_same p 8 (λ i l u. h i l (omega arith)), word_same (p + 8) 8 (λ i l u. h i (omega arith) (omega arith))))
 
   pub field-same : (p : ℕ) (column : Column) (heap : Bool) (theap end : ℕ) → SameBytes p (columnBytes column)
       → field a p column heap theap end ≡ field b p column heap theap end

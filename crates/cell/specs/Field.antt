@@ -1,4 +1,5 @@
--- What a field stands for: its items, the array that its descriptor names, or the descriptor (FORMAT.md, section 12; the standard, 7.3.5).
+-- What a field stands for: its items, the array that its descriptor names, the descriptor, or no item (FORMAT.md, section 12; the standard,
+-- 7.3.1 and 7.3.5).
 -- Assumes nothing.
 use Rattle.std.specs.Prelude.{ℕ, ◌+◌, ◌*◌, ◌≤◌, Bool, cond, List, eqb, leb}
 use Rattle.tform.specs.declared.VariableArrayTy.{VariableArrayTy}
@@ -11,13 +12,17 @@ use Rattle.cell.specs.declared.Field.{Field}
 use Rattle.cell.specs.declared.Field.TheVariants.{Items, Descriptor, OutsideHeap}
 use Rattle.cell.specs.Item.{word, width}
 
+-- no item: what an array of count 0 gives, and a field of P or Q with the count 0. The place 0 means nothing
+abbrev pub noItems : VariableArrayTy → Field
+noItems ty = Items ty 0 0
+
 -- the array of a descriptor with the count n and the byte offset o, in a heap from byte theap up to, and without, byte `end`. Count 0
--- gives no item, with any offset; its place 0 means nothing. An array that ends past the heap is refused. Any other, count 0 included,
--- is what the request's term "sound" means: it gives `Items`.
+-- gives no item, with any offset. An array that ends past the heap is refused. Any other, count 0 included, is what the request's term
+-- "sound" means: it gives `Items`.
 unfoldable pub array : ℕ → ℕ → VariableArrayTy → ℕ → ℕ → Field
 array theap end ty n o =
     cond (eqb n 0)
-    (Items ty 0 0)
+    (noItems ty)
     (cond (leb (theap + o + items ty n * width ty) end) (Items ty (theap + o) (items ty n)) OutsideHeap)
 
 -- a descriptor of two numbers of 32 bits, and one of 64: followed where the heap is on
@@ -29,11 +34,12 @@ unfoldable pub field64 : List ℕ → ℕ → VariableArrayTy → Bool → ℕ �
 field64 a p ty heap theap end =
     cond heap (array theap end ty (word a p 8) (word a (p + 8) 8)) (Descriptor (VariableLengthArray64 (word a p 8) (word a (p + 8) 8)))
 
--- the field of a form and a count at place p
+-- the field of a form and a count at place p. P and Q have one descriptor or, at count 0, none: the request's term "empty field". With the
+-- heap on or off it stands for no item, and no byte is looked at
 abbrev pub fieldBy : List ℕ → ℕ → TFormType → ℕ → Bool → ℕ → ℕ → Field
 fieldBy a p (F.Items ty) n heap theap end = Items ty p (items ty n)
-fieldBy a p (F.P ty) n heap theap end = field32 a p ty heap theap end
-fieldBy a p (F.Q ty) n heap theap end = field64 a p ty heap theap end
+fieldBy a p (F.P ty) n heap theap end = cond (eqb n 0) (noItems ty) (field32 a p ty heap theap end)
+fieldBy a p (F.Q ty) n heap theap end = cond (eqb n 0) (noItems ty) (field64 a p ty heap theap end)
 
 -- the field of a column at place p
 unfoldable pub field : List ℕ → ℕ → Column → Bool → ℕ → ℕ → Field

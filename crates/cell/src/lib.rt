@@ -6,7 +6,7 @@ pub mod words;
 
 ghost use Rattle.std.specs.Prelude.{◌≡◌};
 ghost use Rattle.cell.specs.Item.{logical, rawItem, valueIn, item, blankCell};
-ghost use Rattle.cell.specs.Field.{array, field32, field64, field, sizeOf};
+ghost use Rattle.cell.specs.Field.{noItems, array, field32, field64, field, sizeOf};
 
 use layout::Column;
 use tform::{TFormType, VariableArrayTy};
@@ -176,12 +176,20 @@ pub fn read_item(area: &[u8], at: u64, ty: VariableArrayTy, column: Column) -> D
     value_in(column, raw)
 }
 
+// No item: what an array of count 0 gives, and a field of P or Q with count 0.
+fn no_items(ty: VariableArrayTy) -> Field
+    ensures { result ≡ noItems ty }
+{
+    Field::Items { ty, at: 0, n: 0 }
+}
+
 // The array that a descriptor names, in a heap from byte theap up to, and without, byte `end` of the data area.
+#[tactic(auto, unfolding(crate::specs::Field::array))]
 pub fn array(theap: u64, end: u64, ty: VariableArrayTy, num_elems: u64, offset_byte: u64) -> Field
     ensures { result ≡ array theap end ty num_elems offset_byte }
 {
     if num_elems == 0 {
-        return Field::Items { ty, at: 0, n: 0 };
+        return no_items(ty);
     }
     if end < theap {
         return Field::OutsideHeap;
@@ -230,7 +238,9 @@ fn field64(area: &[u8], at: u64, ty: VariableArrayTy, heap: bool, theap: u64, en
     })
 }
 
-// What the field of a column at a place stands for, with the heap, from byte theap up to byte `end`, on or off.
+// What the field of a column at a place stands for, with the heap, from byte theap up to byte `end`, on or off. P and Q
+// of count 0 have no descriptor.
+#[tactic(auto, unfolding(crate::specs::Field::field))]
 pub fn read_field(area: &[u8], at: u64, column: Column, heap: bool, theap: u64, end: u64) -> Field
     ensures { result ≡ field area.now at column heap theap end }
 {
@@ -241,8 +251,9 @@ pub fn read_field(area: &[u8], at: u64, column: Column, heap: bool, theap: u64, 
             at,
             n: tform::item_count(ty, column.count as u64),
         },
-        TFormType::P(ty) => field32(area, at, ty, heap, theap, end),
-        TFormType::Q(ty) => field64(area, at, ty, heap, theap, end),
+        TFormType::P(ty) if 0 < column.count => field32(area, at, ty, heap, theap, end),
+        TFormType::Q(ty) if 0 < column.count => field64(area, at, ty, heap, theap, end),
+        TFormType::P(ty) | TFormType::Q(ty) => no_items(ty),
     }
 }
 

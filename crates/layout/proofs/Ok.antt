@@ -17,7 +17,7 @@ use Rattle.layout.specs.declared.Column.{Column}
 use Rattle.layout.specs.Layout.{noColumn, columnBytes, columnsOk}
 
 -- the bytes of a column with a count within the limit
-pub column-limit : (c : Column) → countOk c.form c.count ≡ true → columnBytes c ≤ 134217744
+pub column-limit : (c : Column) → countOk c.form c.count ≡ true → columnBytes c ≤ 134217728
 column-limit c h = omega (arith, field-bytes-bound c.form c.count, count-bound c.form c.count h)
 
 -- c is column i of cs

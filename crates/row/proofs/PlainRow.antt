@@ -1,12 +1,12 @@
--- A row of items, read from its start: all of its entries are cells, so one pass over the columns gives its plan.
+-- A row without descriptors, read from its start: all of its entries are cells, so one pass over the columns gives its plan.
 -- Assumes nothing.
 use Prim.Native.Nat.{ℕ, zero, suc, ◌-◌, ◌<◌}
 use mathlib.Core.Path.{◌≡◌, refl}
-use mathlib.Core.Bool.{Bool, true, false, false≢true, cond}
+use mathlib.Core.Bool.{Bool, true, false, cond}
 use mathlib.Core.List.{List, [], ◌++◌}
 use native.Mathlib.Omega.{arith}
 use lib.ListN.{length}
-use borrow.Author.Tests.{eq-eqb}
+use borrow.Author.Tests.{eq-eqb, eqb-true}
 use Rattle.tform.specs.declared.TFormType.{TFormType}
 use Rattle.tform.specs.declared.TFormType.TheVariants as T
 use Rattle.tform.specs.Width.{items, fieldItems}
@@ -22,7 +22,7 @@ use Rattle.walk.specs.Plain.{columnOf, fieldAt, fieldOf, itemAt, cells, entriesO
 use Rattle.walk.specs.Walk.{Gathered, allCells, outside, before, gather, rest}
 use Rattle.walk.specs.Step.{stateOf}
 use Rattle.walk.proofs.Laws.{from}
-use Rattle.table.specs.Scan.{isItems, plainColumn}
+use Rattle.table.specs.Scan.{noDescriptor, plainColumn}
 use Rattle.table.proofs.Scanned.{Summed, Ready, summed-row, summed-size, summed-belongs}
 use Rattle.row.specs.declared.plan.Rest.TheVariants as L
 use Rattle.row.specs.Plan.{leftOf, restPlan, rowPlan}
@@ -40,34 +40,34 @@ unfolding cells gather
 cells-all r c v i zero es e = e
 cells-all r c v i (suc n) es e = one_more _ (gather (cells r c v (suc i) n ++ es)) _ (cells-all r c v (suc i) n es e)
 
--- ---- a field of items, if its column is chosen
+-- ---- a field without a descriptor, if its column is chosen
 
 module _ (a : List ℕ) (p : ℕ) (heap : Bool) (theap end : ℕ) where
-  items-size : (t : Bool) (f : TFormType) (n : ℕ) → cond t (isItems f) true ≡ true
+  no-descriptor-size : (t : Bool) (f : TFormType) (n : ℕ) → cond t (noDescriptor f n) true ≡ true
       → cond t (fieldItems f n) 0 ≡ cond t (sizeOf (fieldBy a p f n heap theap end)) 0
-  items-size false f n e = refl
-  items-size true (T.Items ty) n e = refl
-  items-size true (T.P ty) n e = absurd (false≢true e)
-  items-size true (T.Q ty) n e = absurd (false≢true e)
+  no-descriptor-size false f n e = refl
+  no-descriptor-size true (T.Items ty) n e = refl
+  no-descriptor-size true (T.P ty) n e = rw (eqb-true n 0 e)
+  no-descriptor-size true (T.Q ty) n e = rw (eqb-true n 0 e)
 
-  items-all : (column : Column) (r c : ℕ) (t : Bool) (f : TFormType) (n : ℕ) → cond t (isItems f) true ≡ true → (es : List Entry) → AllCells es
+  no-descriptor-all : (column : Column) (r c : ℕ) (t : Bool) (f : TFormType) (n : ℕ) → cond t (noDescriptor f n) true ≡ true → (es : List Entry) → AllCells es
       → AllCells (cond t (entriesOf column a r c (fieldBy a p f n heap theap end)) [] ++ es)
-  unfolding entriesOf
-  items-all column r c false f n e es w = w
-  items-all column r c true (T.Items ty) n e es w = cells-all r c (itemAt column a ty p) 0 (items ty n) es w
-  items-all column r c true (T.P ty) n e es w = absurd (false≢true e)
-  items-all column r c true (T.Q ty) n e es w = absurd (false≢true e)
+  unfolding entriesOf cells
+  no-descriptor-all column r c false f n e es w = w
+  no-descriptor-all column r c true (T.Items ty) n e es w = cells-all r c (itemAt column a ty p) 0 (items ty n) es w
+  no-descriptor-all column r c true (T.P ty) n e es w = rw e w
+  no-descriptor-all column r c true (T.Q ty) n e es w = rw e w
 
 module _ (l : BinTable) (a : List ℕ) (choice : ℕ) (heap : Bool) (r k : ℕ) (e : plainColumn (columnOf l k) (chosen choice k) ≡ true) where
   pub plain_size : cond (chosen choice k) (fieldItems (columnOf l k).form (columnOf l k).count) 0 ≡ columnSize l a choice heap r k
   unfolding fieldOf field
-  plain_size = items-size a (fieldAt l r k) heap l.theap (dataSize l) (chosen choice k) (columnOf l k).form (columnOf l k).count e
+  plain_size = no-descriptor-size a (fieldAt l r k) heap l.theap (dataSize l) (chosen choice k) (columnOf l k).form (columnOf l k).count e
 
   pub plain-all : k < l.tfields → AllCells (from l a choice heap r (suc k)) → AllCells (from l a choice heap r k)
   unfolding columnsEntries columnEntries fieldOf field
   plain-all h w =
       let q : l.tfields - k ≡ suc (l.tfields - suc k) = omega (arith, h) in
-      rw q (items-all a (fieldAt l r k) heap l.theap (dataSize l) (columnOf l k) r k (chosen choice k) (columnOf l k).form (columnOf l k).count e (from l a choice heap r (suc k)) w)
+      rw q (no-descriptor-all a (fieldAt l r k) heap l.theap (dataSize l) (columnOf l k) r k (chosen choice k) (columnOf l k).form (columnOf l k).count e (from l a choice heap r (suc k)) w)
 
 -- ---- the row
 

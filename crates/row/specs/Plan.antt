@@ -55,7 +55,7 @@ descriptorKind (T.Items ty) = K.OutsideHeap
 descriptorKind (T.P ty) = K.Descriptor32
 descriptorKind (T.Q ty) = K.Descriptor64
 
--- the plan of a field at place p; its descriptor, if it is one, is of this kind. The type matters at items alone
+-- the plan of a field at place p; its descriptor, if it has one, is of this kind. The type matters at items alone
 abbrev pub planOf : ℕ → ℕ → Column → FieldKind → ℕ → ℕ → Field → FieldPlan
 planOf r c column kind p skip (F.Items ty at n) = fieldFrom r c column K.Items ty at n skip
 planOf r c column kind p skip (F.Descriptor v) = fieldFrom r c column kind L p 1 skip

@@ -106,7 +106,7 @@ fn field_from(
     }
 }
 
-// The plan of a field that holds a descriptor of this kind at a place.
+// The plan of a field. Its descriptor, if it has one, is of this kind and lies at this place.
 fn descriptor_plan(
     row: u64,
     c: usize,
@@ -306,8 +306,8 @@ fn any_plan(layout: BinTable, area: &[u8], cursor: TableData, room: usize) -> Ro
     no_plan(cursor, Answer::Refused(Refusal::Mismatch))
 }
 
-// The plan of a row read into a list of `room` cells. One pass over the columns plans a row of items from its
-// start; all else is left to `any_plan`.
+// The plan of a row read into a list of `room` cells. One pass over the columns plans a row without descriptors
+// from its start; all else is left to `any_plan`.
 pub fn row_plan(layout: BinTable, area: &[u8], cursor: TableData, room: usize) -> RowPlan
     ensures { result ≡ rowPlan layout area.now cursor room }
 {

@@ -9,24 +9,17 @@ use lib.ListN.{length, length-append}
 use lib.Dec.{ltb}
 use borrow.Author.Tests.{ltb-true, ltb-false, lt-ltb}
 use Rattle.ascii.proofs.Cases.{by-test, either}
-use Rattle.tform.specs.declared.TFormType.{TFormType}
-use Rattle.tform.specs.declared.TFormType.TheVariants as T
-use Rattle.tform.specs.Width.{fieldItems}
 use Rattle.layout.specs.declared.BinTable.{BinTable}
 use Rattle.layout.specs.Layout.{dataSize}
-use Rattle.cell.specs.Field.{fieldBy, field, sizeOf}
+use Rattle.cell.specs.Field.{field}
+use Rattle.cell.proofs.Empty.{field-none}
 use Rattle.walk.specs.declared.Entry.{Entry}
 use Rattle.walk.specs.Plain.{columnOf, fieldAt, fieldOf, chosen, columnSize, columnsEntries, rowEntries}
 use Rattle.walk.proofs.Laws.{column-length}
 use Rattle.table.specs.Scan.{nextChosen, itemsIn, anyItems}
 use Rattle.table.proofs.ToNext.{to-next}
 
--- ---- a field and a column
-
-field-none : (a : List ℕ) (p : ℕ) (heap : Bool) (theap end : ℕ) (f : TFormType) (n : ℕ) → fieldItems f n ≡ 0 → sizeOf (fieldBy a p f n heap theap end) ≡ 0
-field-none a p heap theap end (T.Items ty) n e = e
-field-none a p heap theap end (T.P ty) n e = absurd (omega (arith, e))
-field-none a p heap theap end (T.Q ty) n e = absurd (omega (arith, e))
+-- ---- a column
 
 size_none : (t : Bool) (n k : ℕ) → (n ≡ 0 → k ≡ 0) → (t && ltb 0 n) ≡ false → cond t k 0 ≡ 0
 size_none true n k h e = h (omega (arith, ltb-false 0 n e))

@@ -39,8 +39,8 @@ module _ (l : BinTable) (a : List ℕ) (choice : ℕ) (heap : Bool) (r : ℕ) wh
 
   -- the first c columns take `at` bytes and have n entries
   pub record Summed (c at n : ℕ) : Type 0 where
-    pub bytes : at ≤ c * 134217744
-    pub some : n ≤ c * 17594467745808
+    pub bytes : at ≤ c * 134217728
+    pub some : n ≤ c * 17594467745792
     pub sums : columnsOk l.naxis1 0 (columnsOf l) ≡ columnsOk l.naxis1 at (drop c (columnsOf l))
     pub sizes : n + length (entries c) ≡ length (entries 0)
 
@@ -48,7 +48,7 @@ module _ (l : BinTable) (a : List ℕ) (choice : ℕ) (heap : Bool) (r : ℕ) wh
   summed-none = record { bytes = omega arith; some = omega arith; sums = refl; sizes = omega arith }
 
   -- column c comes next, with k entries
-  pub summed-next : length (columnsOf l) ≡ l.tfields → (c at n k : ℕ) → c < l.tfields → Summed c at n → k ≤ 17594467745808
+  pub summed-next : length (columnsOf l) ≡ l.tfields → (c at n k : ℕ) → c < l.tfields → Summed c at n → k ≤ 17594467745792
       → countOk (columnOf l c).form (columnOf l c).count ≡ true → (columnOf l c).start ≡ at → k ≡ size c
       → Summed (suc c) (at + columnBytes (columnOf l c)) (n + k)
   summed-next full c at n k h w few count e sized =
@@ -100,7 +100,7 @@ module _ (l : BinTable) (a : List ℕ) (choice : ℕ) (heap : Bool) (r p : ℕ) 
 
   -- column c comes next, with k entries
   module _ (full : length (columnsOf l) ≡ l.tfields) (c k : ℕ) (s : Scan) (h : c < l.tfields) (w : Scanned c s)
-      (few : k ≤ 17594467745808) (count : countOk (columnOf l c).form (columnOf l c).count ≡ true) (at : (columnOf l c).start ≡ s.at)
+      (few : k ≤ 17594467745792) (count : countOk (columnOf l c).form (columnOf l c).count ≡ true) (at : (columnOf l c).start ≡ s.at)
       (sized : k ≡ columnSize l a choice heap r c) where
     abbrev t : Scan
     t = after s (columnOf l c) c k
@@ -208,10 +208,10 @@ module _ (l : BinTable) (a : List ℕ) (choice row : ℕ) (y : Ready l a choice 
   ready-start = omega (arith, mul-le-mul_right l.naxis1 ready-row)
 
   -- the entries of a column
-  pub ready-few : (heap : Bool) (c : ℕ) → countOk (columnOf l c).form (columnOf l c).count ≡ true → columnSize l a choice heap row c ≤ 17594467745808
+  pub ready-few : (heap : Bool) (c : ℕ) → countOk (columnOf l c).form (columnOf l c).count ≡ true → columnSize l a choice heap row c ≤ 17594467745792
   unfolding fieldOf
   ready-few heap c e =
-      by-test (λ (k : ℕ). k ≤ 17594467745808) (chosen choice c)
+      by-test (λ (k : ℕ). k ≤ 17594467745792) (chosen choice c)
       (λ q. omega (arith, field-bound a (fieldAt l row c) (columnOf l c) heap l.theap (dataSize l), column-limit (columnOf l c) e, ready-data)) (λ q. omega arith)
 
   pub ready-fits : columnsOk l.naxis1 0 (columnsOf l) ≡ true → fits l a ≡ true

@@ -1,7 +1,7 @@
 -- One pass over the columns of a cursor's row, as the code of the cell read and the row read has it. The steps' contracts are not stated by these;
 -- proofs/Scanned shows that an entry that a pass finds is the plain list's.
 -- Assumes nothing.
-use Rattle.std.specs.Prelude.{ℕ, zero, suc, ◌+◌, ◌-◌, ◌*◌, ◌^◌, Bool, true, false, cond, ◌&&◌, ◌||◌, leb, ltb}
+use Rattle.std.specs.Prelude.{ℕ, zero, suc, ◌+◌, ◌-◌, ◌*◌, ◌^◌, Bool, true, false, cond, ◌&&◌, ◌||◌, eqb, leb, ltb}
 use Rattle.tform.specs.declared.TFormType.{TFormType}
 use Rattle.tform.specs.declared.TFormType.TheVariants.{Items, P, Q}
 use Rattle.tform.specs.Width.{fieldItems}
@@ -35,15 +35,15 @@ ready n1 n2 pcount theap n len choice row =
     leb n1 naxis1Limit && (leb n2 naxis2Limit && (leb pcount pcountLimit && (leb n tfieldsLimit && (leb (n1 * n2) theap
     && (leb theap (n1 * n2 + pcount) && (leb (n1 * n2 + pcount) len && (ltb row n2 && (ltb 0 choice && ltb choice (2 ^ n)))))))))
 
--- a form of items, and not of a descriptor
-abbrev pub isItems : TFormType → Bool
-isItems (Items ty) = true
-isItems (P ty) = false
-isItems (Q ty) = false
+-- a form and a count without a descriptor: items, or P or Q of count 0
+abbrev pub noDescriptor : TFormType → ℕ → Bool
+noDescriptor (Items ty) n = true
+noDescriptor (P ty) n = eqb n 0
+noDescriptor (Q ty) n = eqb n 0
 
--- a column that holds items, if it is chosen
+-- a column that holds no descriptor, if it is chosen
 abbrev pub plainColumn : Column → Bool → Bool
-plainColumn column is = cond is (isItems column.form) true
+plainColumn column is = cond is (noDescriptor column.form column.count) true
 
 -- the pass after column c, which has k entries
 abbrev pub after : Scan → Column → ℕ → ℕ → Scan

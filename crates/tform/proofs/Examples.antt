@@ -1,9 +1,12 @@
--- Nine forms and the bytes that each takes, through the definitions that the contracts cite.
+-- Some forms and the bytes that each takes, through the definitions that the contracts cite.
 -- Assumes nothing.
 use mathlib.Core.Path.{◌≡◌, refl}
 use mathlib.Core.List.{List, [], ◌∷◌, map}
 use Prim.Native.Nat.{ℕ}
+use lib.ListN.{replicate}
 use Rattle.ascii.specs.Text.{bytes, front, decimal}
+use Rattle.tform.specs.declared.VariableArrayTy.TheVariants.{E}
+use Rattle.tform.specs.declared.TFormType.TheVariants.{P}
 use Rattle.tform.specs.declared.TForm.{TForm}
 use Rattle.tform.specs.declared.TForm.TheVariants.{Valid, Invalid}
 use Rattle.tform.specs.Width.{among, letterWidth, fieldBytes}
@@ -28,3 +31,22 @@ formSizes = takes 1 ∷ takes 2 ∷ takes 0 ∷ takes 4 ∷ takes 192 ∷ takes 
 pub nine-forms : map (λ (s : List ℕ). sizeOf (formOf s)) formTexts ≡ formSizes
 unfolding bytes front decimal among letterWidth repeatCount elementAmong elementOf firstElement kindOf formOf formTexts formSizes
 nine-forms = refl
+
+-- ---- P and Q: one descriptor, or none
+
+unfoldable pub descriptorTexts : List (List ℕ)
+descriptorTexts =
+    bytes "0PE" ∷ bytes "0QD" ∷ bytes "00PE" ∷ bytes "1PE" ∷ bytes "00001QD" ∷ bytes "2PE" ∷ bytes "2QD" ∷ bytes "8388608PE" ∷ bytes "0P"
+    ∷ bytes "0PZ" ∷ []
+
+unfoldable pub descriptorSizes : List Size
+descriptorSizes = takes 0 ∷ takes 0 ∷ takes 0 ∷ takes 8 ∷ takes 16 ∷ bad ∷ bad ∷ bad ∷ bad ∷ bad ∷ []
+
+pub descriptor-forms : map (λ (s : List ℕ). sizeOf (formOf s)) descriptorTexts ≡ descriptorSizes
+unfolding bytes front decimal among letterWidth repeatCount elementAmong elementOf firstElement kindOf formOf descriptorTexts descriptorSizes
+descriptor-forms = refl
+
+-- four spellings of one descriptor
+pub one-descriptor : map formOf (bytes "1PE" ∷ bytes "PE" ∷ bytes "PE(20)" ∷ bytes "00001PE" ∷ []) ≡ replicate 4 (Valid (P E) 1)
+unfolding bytes front decimal among letterWidth repeatCount elementAmong elementOf firstElement kindOf formOf
+one-descriptor = refl

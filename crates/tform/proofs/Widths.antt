@@ -1,6 +1,6 @@
 -- A width is at most 16; the bound of a field's bytes.
 -- Assumes nothing.
-use Prim.Native.Nat.{ℕ, ◌+◌, ◌*◌, ◌≤◌}
+use Prim.Native.Nat.{ℕ, ◌*◌, ◌≤◌}
 use native.Mathlib.Omega.{arith}
 use native.Mathlib.Nat.{mul-le-mul}
 use Rattle.ascii.specs.Text.{bytes}
@@ -24,7 +24,7 @@ width-bound b =
     (λ e. by-test (λ (n : ℕ). n ≤ 16) (among b (bytes "P")) (λ e. omega arith)
     (λ e. by-test (λ (n : ℕ). n ≤ 16) (among b (bytes "Q")) (λ e. omega arith) (λ e. omega arith))))))))
 
--- at most the count; of a field one more, for a descriptor at count 0
+-- at most the count
 pub items-bound : (e : VariableArrayTy) (n : ℕ) → items e n ≤ n
 items-bound L n = omega arith
 items-bound X n = omega arith
@@ -38,10 +38,10 @@ items-bound D n = omega arith
 items-bound C n = omega arith
 items-bound M n = omega arith
 
-pub field-items-bound : (f : TFormType) (n : ℕ) → fieldItems f n ≤ n + 1
-field-items-bound (Items e) n = omega (arith, items-bound e n)
+pub field-items-bound : (f : TFormType) (n : ℕ) → fieldItems f n ≤ n
+field-items-bound (Items e) n = items-bound e n
 field-items-bound (P e) n = omega arith
 field-items-bound (Q e) n = omega arith
 
-pub field-bytes-bound : (f : TFormType) (n : ℕ) → fieldBytes f n ≤ (n + 1) * 16
+pub field-bytes-bound : (f : TFormType) (n : ℕ) → fieldBytes f n ≤ n * 16
 field-bytes-bound f n = mul-le-mul (field-items-bound f n) (width-bound (formLetter f))

@@ -59,16 +59,22 @@ items D n = n
 items C n = n
 items M n = n
 
--- the items of a field: a descriptor is one, at every count
+-- the items of a field; of P and Q, which count descriptors, as many as the count: at 0 the field is empty
 abbrev pub fieldItems : TFormType → ℕ → ℕ
 fieldItems (Items e) n = items e n
-fieldItems (P e) n = 1
-fieldItems (Q e) n = 1
+fieldItems (P e) n = n
+fieldItems (Q e) n = n
 
 -- the bytes of a field
 abbrev pub fieldBytes : TFormType → ℕ → ℕ
 fieldBytes f n = fieldItems f n * letterWidth (formLetter f)
 
--- the limit of a count
+-- the largest count of a form: 1 of P and Q, which have one descriptor or none
+abbrev pub countLimit : TFormType → ℕ
+countLimit (Items e) = 8388608
+countLimit (P e) = 1
+countLimit (Q e) = 1
+
+-- whether a count is within it
 abbrev pub countOk : TFormType → ℕ → Bool
-countOk f n = leb n 8388608
+countOk f n = leb n (countLimit f)

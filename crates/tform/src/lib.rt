@@ -25,8 +25,8 @@ pub enum VariableArrayTy {
     M,
 }
 
-// The form of a column: items, or one descriptor of 32-bit or 64-bit numbers that carries the form of its
-// array's elements inside. The count stands beside it, in the column.
+// The form of a column: items, or descriptors of 32-bit or 64-bit numbers, which carry the form of their arrays'
+// elements inside. The count, 0 or 1 of descriptors, stands beside it, in the column.
 #[derive(Clone, Copy)]
 pub enum TFormType {
     Items(VariableArrayTy),
@@ -105,29 +105,36 @@ pub fn item_count(ty: VariableArrayTy, count: u64) -> u64
     }
 }
 
-// How many items a field has; a descriptor is one.
+// How many items a field has. P and Q count descriptors: of count 0 there is none.
 pub fn field_items(form: TFormType, count: u32) -> u64
     ensures { result ≡ fieldItems form count }
 {
     match form {
         TFormType::Items(ty) => item_count(ty, count as u64),
-        TFormType::P(_) => 1,
-        TFormType::Q(_) => 1,
+        TFormType::P(_) | TFormType::Q(_) => count as u64,
     }
 }
 
-// The bytes of a field in a row.
+// The bytes of a field in a row. With the items taken first the cell read's pass is slower (docs/SPEED.md).
 pub fn num_bytes_field(form: TFormType, count: u32) -> u64
     ensures { result ≡ fieldBytes form count }
 {
-    field_items(form, count) * item_width(form_letter(form)) as u64
+    let width = item_width(form_letter(form)) as u64;
+    field_items(form, count) * width
 }
 
-// Whether a count is within its limit.
+// Whether a count is within its limit: a field of P or Q is one descriptor or none. A count that every form may have is
+// seen first, so that most columns need no look at the form.
 pub fn count_ok(form: TFormType, count: u32) -> bool
     ensures { result ≡ countOk form count }
 {
-    count <= 8388608
+    if count <= 1 {
+        return true;
+    }
+    match form {
+        TFormType::Items(_) => count <= 8388608,
+        TFormType::P(_) | TFormType::Q(_) => false,
+    }
 }
 
 fn counted(kind: Kind, count: u32) -> TForm

@@ -21,7 +21,7 @@ pub enum Kind {
     Unknown,
 }
 
-// `n`, or 8,388,609, one more than the limit, if it is larger.
+// `n`, or 8,388,609, one more than the largest limit, if it is larger.
 fn capped(n: usize) -> u32
     ensures { result ≡ min 8388609 n }
 {
@@ -32,7 +32,7 @@ fn capped(n: usize) -> u32
 }
 
 // The count of so many digits, capped, with 1 where there are none. A number that is too large to be held is above
-// the limit too.
+// every limit.
 pub fn repeat_count(text: &[u8], digits: usize) -> u32
     requires { digits ≤ front digit text.now }
     ensures { result ≡ cond (eqb digits 0) 1 (min 8388609 (decimal 0 (take digits text.now))) }

@@ -13,3 +13,4 @@ pub mod Answers
 pub mod InOrder
 pub mod Examples
 pub mod Together
+pub mod Empty

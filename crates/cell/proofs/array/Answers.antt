@@ -1,11 +1,8 @@
 -- `array` meets its contract: the room after the offset, by a division, says whether the array ends past the heap.
 use Rattle.std.proofs.Common.{arith}
 use Rattle.cell.proofs.Widths.{width-pos}
-use Rattle.cell.proofs.Arrays.{array-none, array-sound, array-outside, too_many, enough}
+use Rattle.cell.proofs.Arrays.{array-sound, array-outside, too_many, enough}
 use Rattle.cell.proofs.array.Goals as goal
-
-pub returns-then-num_elems-eq0 : goal.returns-then-num_elems-eq0
-returns-then-num_elems-eq0 c = array-none _ _ _ _ _ c.if-num_elems-eq0.true
 
 pub returns-then-end-theap : goal.returns-then-end-theap
 returns-then-end-theap c =

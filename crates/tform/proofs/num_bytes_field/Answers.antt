@@ -6,6 +6,6 @@ use Rattle.tform.proofs.num_bytes_field.Goals as goal
 
 pub overflow_mul-result : goal.overflow_mul-result
 overflow_mul-result c =
-    let product : c.field_items.result * c.item_width.result ≡ fieldBytes c.args.form c.args.count
-    = rw (c.field_items.ensures, c.item_width.ensures, c.form_letter.ensures) in
+    let product : c.field_items.result * c.item_width-width.result ≡ fieldBytes c.args.form c.args.count
+    = rw (c.field_items.ensures, c.item_width-width.ensures, c.form_letter.ensures) in
     omega (arith, product, field-bytes-bound c.args.form c.args.count, c.ranges.count.fits)

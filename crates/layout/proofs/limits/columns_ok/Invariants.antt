@@ -5,7 +5,7 @@ use Rattle.layout.proofs.limits.columns_ok.Given as goal
 
 abbrev pub invariant-loop-i : goal.invariant-loop-i
 invariant-loop-i l =
-    (l.i ≤ l.layout.tfields) × (l.at ≤ l.i * 134217744)
+    (l.i ≤ l.layout.tfields) × (l.at ≤ l.i * 134217728)
     × (columnsOk l.layout.naxis1 0 (columnsOf l.layout) ≡ columnsOk l.layout.naxis1 l.at (drop l.i (columnsOf l.layout)))
 
 abbrev pub decreases-loop-i : goal.decreases-loop-i

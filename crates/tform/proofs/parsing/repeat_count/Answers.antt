@@ -1,4 +1,4 @@
--- `repeat_count` meets its contract: a number that is too large to be held is above the limit.
+-- `repeat_count` meets its contract: a number that is too large to be held is above every limit.
 use Rattle.std.proofs.Common.{take, sym, ◌∙◌, ne_eqb, arith}
 use Rattle.std.proofs.Math.Seq.{length-take-le}
 use Rattle.ascii.specs.Text.{decimal, digit}
