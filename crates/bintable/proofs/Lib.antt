@@ -6,3 +6,4 @@ pub mod Filled
 pub mod Entered
 pub mod Kept
 pub mod OwnNames
+pub mod BadForm

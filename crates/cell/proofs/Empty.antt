@@ -1,4 +1,5 @@
--- A field without items, as those of P or Q with count 0 are, has no entry, with the heap on or off. A field that takes no bytes has no items.
+-- A field without items, as those of P or Q with count 0 are, has no entry, with the heap on or off. A field that takes
+-- no bytes has no items.
 -- Assumes nothing.
 use Prim.Native.Nat.{ℕ}
 use mathlib.Core.Path.{◌≡◌}

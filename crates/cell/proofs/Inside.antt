@@ -66,8 +66,20 @@ field-bound a p column heap theap end = by-form-bound column.form column.count
     by-form-bound (F.P ty) n =
         by-test (λ (f : Field). sizeOf f ≤ fieldBytes (F.P ty) n + end + 1) (eqb n 0) (λ z. omega arith)
         (λ z. by-test (λ (f : Field). sizeOf f ≤ fieldBytes (F.P ty) n + end + 1) heap
-        (λ t. omega (arith, size-bound end (array theap end ty (word a p 4) (word a (p + 4) 4)) (array-inside theap end ty (word a p 4) (word a (p + 4) 4)))) (λ t. omega arith))
+        (λ t.
+        omega (
+          arith,
+          size-bound end (array theap end ty (word a p 4) (word a (p + 4) 4))
+              (array-inside theap end ty (word a p 4) (word a (p + 4) 4)),
+        ))
+        (λ t. omega arith))
     by-form-bound (F.Q ty) n =
         by-test (λ (f : Field). sizeOf f ≤ fieldBytes (F.Q ty) n + end + 1) (eqb n 0) (λ z. omega arith)
         (λ z. by-test (λ (f : Field). sizeOf f ≤ fieldBytes (F.Q ty) n + end + 1) heap
-        (λ t. omega (arith, size-bound end (array theap end ty (word a p 8) (word a (p + 8) 8)) (array-inside theap end ty (word a p 8) (word a (p + 8) 8)))) (λ t. omega arith))
+        (λ t.
+        omega (
+          arith,
+          size-bound end (array theap end ty (word a p 8) (word a (p + 8) 8))
+              (array-inside theap end ty (word a p 8) (word a (p + 8) 8)),
+        ))
+        (λ t. omega arith))

@@ -53,8 +53,10 @@ array-kept theap end ty n o =
 by_form : (f : TFormType) (a : List ℕ) (p n : ℕ) (heap : Bool) (theap end : ℕ) → Kept (fieldBy a p f n heap theap end)
 unfolding field32 field64
 by_form (F.Items ty) a p n heap theap end = tt
-by_form (F.P ty) a p n heap theap end = by-test Kept (eqb n 0) (λ z. tt) (λ z. by-test Kept heap (λ e. array-kept theap end ty _ _) (λ e. tt))
-by_form (F.Q ty) a p n heap theap end = by-test Kept (eqb n 0) (λ z. tt) (λ z. by-test Kept heap (λ e. array-kept theap end ty _ _) (λ e. tt))
+by_form (F.P ty) a p n heap theap end =
+    by-test Kept (eqb n 0) (λ z. tt) (λ z. by-test Kept heap (λ e. array-kept theap end ty _ _) (λ e. tt))
+by_form (F.Q ty) a p n heap theap end =
+    by-test Kept (eqb n 0) (λ z. tt) (λ z. by-test Kept heap (λ e. array-kept theap end ty _ _) (λ e. tt))
 
 pub field-kept : (a : List ℕ) (p : ℕ) (column : Column) (heap : Bool) (theap end : ℕ) (v : DataValue)
     → field a p column heap theap end ≡ Descriptor v → BitsKept v

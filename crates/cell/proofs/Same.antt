@@ -2,7 +2,7 @@
 -- Assumes nothing.
 use Prim.Native.Nat.{ℕ, zero, suc, ◌+◌, ◌*◌, ◌≤◌, ◌<◌}
 use mathlib.Core.Path.{◌≡◌, refl, ap, ap₂}
-use mathlib.Core.Bool.{Bool, false}
+use mathlib.Core.Bool.{Bool}
 use mathlib.Core.List.{List}
 use native.Mathlib.Omega.{arith}
 use lib.Dec.{eqb}
@@ -19,10 +19,6 @@ use Rattle.layout.specs.declared.Column.{Column}
 use Rattle.layout.specs.Layout.{columnBytes}
 use Rattle.cell.specs.Item.{word, width, rawItem, valueIn, item}
 use Rattle.cell.specs.Field.{field32, field64, fieldBy, field}
-
-some : (n : ℕ) → eqb n 0 ≡ false → 1 ≤ n
-some zero e = absurd (eqb-false 0 0 e refl)
-some (suc n) e = omega arith
 
 module _ (a b : List ℕ) where
   -- the two areas have the same k bytes from place p on
@@ -62,13 +58,19 @@ module _ (a b : List ℕ) where
   by_form (F.P ty) p n heap theap end h =
       either (eqb n 0) (λ z. rw z)
       (λ z.
-      let there : 1 ≤ n = some n z in
-      rw (word_same p 4 (λ i l u. h i l (omega arith)), word_same (p + 4) 4 (λ i l u. h i (omega arith) (omega arith))))
+      let there : 1 ≤ n = omega (arith, eqb-false n 0 z) in
+      rw (
+        word_same p 4 (λ i l u. h i l (omega arith)),
+        word_same (p + 4) 4 (λ i l u. h i (omega arith) (omega arith)),
+      ))
   by_form (F.Q ty) p n heap theap end h =
       either (eqb n 0) (λ z. rw z)
       (λ z.
-      let there : 1 ≤ n = some n z in
-      rw (word_same p 8 (λ i l u. h i l (omega arith)), word_same (p + 8) 8 (λ i l u. h i (omega arith) (omega arith))))
+      let there : 1 ≤ n = omega (arith, eqb-false n 0 z) in
+      rw (
+        word_same p 8 (λ i l u. h i l (omega arith)),
+        word_same (p + 8) 8 (λ i l u. h i (omega arith) (omega arith)),
+      ))
 
   pub field-same : (p : ℕ) (column : Column) (heap : Bool) (theap end : ℕ) → SameBytes p (columnBytes column)
       → field a p column heap theap end ≡ field b p column heap theap end

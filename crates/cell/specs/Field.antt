@@ -1,5 +1,5 @@
--- What a field stands for: its items, the array that its descriptor names, the descriptor, or no item (FORMAT.md, section 12; the standard,
--- 7.3.1 and 7.3.5).
+-- What a field stands for: its items, the array that its descriptor names, the descriptor, or no item (FORMAT.md,
+-- section 12; the standard, 7.3.1 and 7.3.5).
 -- Assumes nothing.
 use Rattle.std.specs.Prelude.{ℕ, ◌+◌, ◌*◌, ◌≤◌, Bool, cond, List, eqb, leb}
 use Rattle.tform.specs.declared.VariableArrayTy.{VariableArrayTy}
@@ -16,9 +16,9 @@ use Rattle.cell.specs.Item.{word, width}
 abbrev pub noItems : VariableArrayTy → Field
 noItems ty = Items ty 0 0
 
--- the array of a descriptor with the count n and the byte offset o, in a heap from byte theap up to, and without, byte `end`. Count 0
--- gives no item, with any offset. An array that ends past the heap is refused. Any other, count 0 included, is what the request's term
--- "sound" means: it gives `Items`.
+-- the array of a descriptor with the count n and the byte offset o, in a heap from byte theap up to, and without, byte
+-- `end`. Count 0 gives no item, with any offset. An array that ends past the heap is refused. Any other, count 0
+-- included, is what the request's term "sound" means: it gives `Items`.
 unfoldable pub array : ℕ → ℕ → VariableArrayTy → ℕ → ℕ → Field
 array theap end ty n o =
     cond (eqb n 0)
@@ -34,8 +34,8 @@ unfoldable pub field64 : List ℕ → ℕ → VariableArrayTy → Bool → ℕ �
 field64 a p ty heap theap end =
     cond heap (array theap end ty (word a p 8) (word a (p + 8) 8)) (Descriptor (VariableLengthArray64 (word a p 8) (word a (p + 8) 8)))
 
--- the field of a form and a count at place p. P and Q have one descriptor or, at count 0, none: the request's term "empty field". With the
--- heap on or off it stands for no item, and no byte is looked at
+-- the field of a form and a count at place p. P and Q have one descriptor or, at count 0, none: the request's term
+-- "empty field". With the heap on or off it stands for no item, and no byte is looked at
 abbrev pub fieldBy : List ℕ → ℕ → TFormType → ℕ → Bool → ℕ → ℕ → Field
 fieldBy a p (F.Items ty) n heap theap end = Items ty p (items ty n)
 fieldBy a p (F.P ty) n heap theap end = cond (eqb n 0) (noItems ty) (field32 a p ty heap theap end)

@@ -133,10 +133,12 @@ unfolding field32 field64
 described a p (T.Items ty) n heap theap end = tt
 described a p (T.P ty) n heap theap end =
     by-test (Described a p K.Descriptor32) (eqb n 0) (λ z. tt)
-    (λ z. by-test (Described a p K.Descriptor32) heap (λ t. array-described a p K.Descriptor32 theap end ty _ _) (λ t. refl))
+    (λ z.
+    by-test (Described a p K.Descriptor32) heap (λ t. array-described a p K.Descriptor32 theap end ty _ _) (λ t. refl))
 described a p (T.Q ty) n heap theap end =
     by-test (Described a p K.Descriptor64) (eqb n 0) (λ z. tt)
-    (λ z. by-test (Described a p K.Descriptor64) heap (λ t. array-described a p K.Descriptor64 theap end ty _ _) (λ t. refl))
+    (λ z.
+    by-test (Described a p K.Descriptor64) heap (λ t. array-described a p K.Descriptor64 theap end ty _ _) (λ t. refl))
 
 first-place : (p : ℕ) (ty : VariableArrayTy) → p + 0 * width ty ≡ p
 first-place p ty = omega arith

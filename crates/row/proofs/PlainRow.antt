@@ -1,4 +1,5 @@
--- A row without descriptors, read from its start: all of its entries are cells, so one pass over the columns gives its plan.
+-- A row without descriptors, read from its start: all of its entries are cells, so one pass over the columns gives its
+-- plan.
 -- Assumes nothing.
 use Prim.Native.Nat.{ℕ, zero, suc, ◌-◌, ◌<◌}
 use mathlib.Core.Path.{◌≡◌, refl}
@@ -50,7 +51,8 @@ module _ (a : List ℕ) (p : ℕ) (heap : Bool) (theap end : ℕ) where
   no-descriptor-size true (T.P ty) n e = rw (eqb-true n 0 e)
   no-descriptor-size true (T.Q ty) n e = rw (eqb-true n 0 e)
 
-  no-descriptor-all : (column : Column) (r c : ℕ) (t : Bool) (f : TFormType) (n : ℕ) → cond t (noDescriptor f n) true ≡ true → (es : List Entry) → AllCells es
+  no-descriptor-all : (column : Column) (r c : ℕ) (t : Bool) (f : TFormType) (n : ℕ)
+      → cond t (noDescriptor f n) true ≡ true → (es : List Entry) → AllCells es
       → AllCells (cond t (entriesOf column a r c (fieldBy a p f n heap theap end)) [] ++ es)
   unfolding entriesOf cells
   no-descriptor-all column r c false f n e es w = w
@@ -61,13 +63,16 @@ module _ (a : List ℕ) (p : ℕ) (heap : Bool) (theap end : ℕ) where
 module _ (l : BinTable) (a : List ℕ) (choice : ℕ) (heap : Bool) (r k : ℕ) (e : plainColumn (columnOf l k) (chosen choice k) ≡ true) where
   pub plain_size : cond (chosen choice k) (fieldItems (columnOf l k).form (columnOf l k).count) 0 ≡ columnSize l a choice heap r k
   unfolding fieldOf field
-  plain_size = no-descriptor-size a (fieldAt l r k) heap l.theap (dataSize l) (chosen choice k) (columnOf l k).form (columnOf l k).count e
+  plain_size =
+      no-descriptor-size a (fieldAt l r k) heap l.theap (dataSize l) (chosen choice k) (columnOf l k).form (columnOf l k).count e
 
   pub plain-all : k < l.tfields → AllCells (from l a choice heap r (suc k)) → AllCells (from l a choice heap r k)
   unfolding columnsEntries columnEntries fieldOf field
   plain-all h w =
       let q : l.tfields - k ≡ suc (l.tfields - suc k) = omega (arith, h) in
-      rw q (no-descriptor-all a (fieldAt l r k) heap l.theap (dataSize l) (columnOf l k) r k (chosen choice k) (columnOf l k).form (columnOf l k).count e (from l a choice heap r (suc k)) w)
+      rw q
+      (no-descriptor-all a (fieldAt l r k) heap l.theap (dataSize l) (columnOf l k) r k (chosen choice k) (columnOf l k).form
+      (columnOf l k).count e (from l a choice heap r (suc k)) w)
 
 -- ---- the row
 

@@ -3,12 +3,12 @@
 use mathlib.Core.Path.{◌≡◌, refl}
 use mathlib.Core.List.{List}
 use mathlib.Core.Bool.{true, cond}
-use Prim.Native.Nat.{ℕ, ◌≤◌, min}
+use Prim.Native.Nat.{ℕ, ◌≤◌, ◌<◌, min}
 use native.Mathlib.Nat.{le_trans}
 use native.Mathlib.Omega.{arith}
 use lib.Dec.{eqb, leb}
 use lib.ListN.{take, drop}
-use borrow.Author.Tests.{lt-leb, leb-true, leb-false}
+use borrow.Author.Tests.{le-leb, lt-leb, leb-true, leb-false}
 use Rattle.ascii.specs.Text.{front, digit, decimal}
 use Rattle.ascii.proofs.Cases.{either, by-test}
 use Rattle.tform.specs.declared.TFormType.{TFormType}
@@ -49,6 +49,16 @@ form-capped s = rw (capped_is s) (counted-capped (repeatCount s) (kindOf (drop (
 -- the bound of a count that is within its limit
 pub count-bound : (f : TFormType) (n : ℕ) → countOk f n ≡ true → n ≤ 8388608
 count-bound f n e = le_trans (leb-true n (countLimit f) e) (limit-bound f)
+
+-- the form of a text whose letters are those of f: bad just where the count is above the limit, 1 for P and Q
+module _ (s : List ℕ) (f : TFormType) (is : kindOf (drop (front digit s) s) ≡ Is f) where
+  pub good-count : repeatCount s ≤ countLimit f → formOf s ≡ Valid f (repeatCount s)
+  unfolding formOf
+  good-count h = rw (is, le-leb (repeatCount s) (countLimit f) h)
+
+  pub bad-count : countLimit f < repeatCount s → formOf s ≡ Invalid
+  unfolding formOf
+  bad-count h = rw (is, lt-leb (repeatCount s) (countLimit f) h)
 
 -- the count of a form that is read is within its limit
 abbrev pub CountOk : TForm → Type 0

@@ -36,8 +36,8 @@ nine-forms = refl
 
 unfoldable pub descriptorTexts : List (List ℕ)
 descriptorTexts =
-    bytes "0PE" ∷ bytes "0QD" ∷ bytes "00PE" ∷ bytes "1PE" ∷ bytes "00001QD" ∷ bytes "2PE" ∷ bytes "2QD" ∷ bytes "8388608PE" ∷ bytes "0P"
-    ∷ bytes "0PZ" ∷ []
+    bytes "0PE" ∷ bytes "0QD" ∷ bytes "00PE" ∷ bytes "1PE" ∷ bytes "00001QD" ∷ bytes "2PE" ∷ bytes "2QD"
+    ∷ bytes "8388608PE" ∷ bytes "0P" ∷ bytes "0PZ" ∷ []
 
 unfoldable pub descriptorSizes : List Size
 descriptorSizes = takes 0 ∷ takes 0 ∷ takes 0 ∷ takes 8 ∷ takes 16 ∷ bad ∷ bad ∷ bad ∷ bad ∷ bad ∷ []
@@ -47,6 +47,7 @@ unfolding bytes front decimal among letterWidth repeatCount elementAmong element
 descriptor-forms = refl
 
 -- four spellings of one descriptor
-pub one-descriptor : map formOf (bytes "1PE" ∷ bytes "PE" ∷ bytes "PE(20)" ∷ bytes "00001PE" ∷ []) ≡ replicate 4 (Valid (P E) 1)
+pub one-descriptor : map formOf (bytes "1PE" ∷ bytes "PE" ∷ bytes "PE(20)" ∷ bytes "00001PE" ∷ [])
+    ≡ replicate 4 (Valid (P E) 1)
 unfolding bytes front decimal among letterWidth repeatCount elementAmong elementOf firstElement kindOf formOf
 one-descriptor = refl

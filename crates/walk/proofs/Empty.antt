@@ -1,5 +1,6 @@
--- Fields that take no bytes: P and Q of count 0, and items of count 0. They have no entry in the plain list, and `Agree` asks nothing of them.
--- And a layout with a count above its limit, as 2 is for P and Q, gets a 10 from opening and from every step.
+-- Fields that take no bytes: P and Q of count 0, and items of count 0. They have no entry in the plain list, and `Agree`
+-- asks nothing of them. And a layout with a count above its limit, as 2 is for P and Q, gets a 10 from opening and from
+-- every step.
 -- Assumes nothing.
 use Prim.Native.Nat.{ℕ, zero, suc, ◌+◌, ◌<◌}
 use mathlib.Core.Path.{◌≡◌, refl, sym, ◌∙◌}
@@ -76,30 +77,43 @@ agree-without l a b choice heap h =
       fields = λ r c u v t.
           some-or-none (columnBytes (columnOf l c)) (λ k. (h r c u v t k).0) (λ e. same-none a b (fieldAt l r c) _ e);
       arrays = λ r c u v t.
-          some-or-none (columnBytes (columnOf l c)) (λ k. (h r c u v t k).1) (λ e. same-items a b (fieldOf l a heap r c) (no-entry l a heap r c e));
+          some-or-none (columnBytes (columnOf l c)) (λ k. (h r c u v t k).1)
+          (λ e. same-items a b (fieldOf l a heap r c) (no-entry l a heap r c e));
     }
 
 -- ---- a count above its limit
 
-over-limit : (end at : ℕ) (cs : List Column) (n k : ℕ) → k < n → countOk (get_or cs k noColumn).form (get_or cs k noColumn).count ≡ false
+over-limit : (end at : ℕ) (cs : List Column) (n k : ℕ) → k < n
+    → countOk (get_or cs k noColumn).form (get_or cs k noColumn).count ≡ false
     → columnsOk end at (take n cs) ≡ false
 unfolding columnsOk
 over-limit end at cs zero k h e = absurd (not-suc-le-zero h)
 over-limit end at [] (suc n) k h e = absurd (false≢true (sym e))
 over-limit end at (c ∷ cs) (suc n) zero h e = rw e
 over-limit end at (c ∷ cs) (suc n) (suc k) h e =
-    rw (over-limit end (at + columnBytes c) cs n k (le_of_suc-le-suc h) e, and-false (eqb c.start at)) (and-false (countOk c.form c.count))
+    rw (over-limit end (at + columnBytes c) cs n k (le_of_suc-le-suc h) e, and-false (eqb c.start at))
+    (and-false (countOk c.form c.count))
 
 module _ (l : BinTable) (k : ℕ) (h : k < l.tfields) (e : countOk (columnOf l k).form (columnOf l k).count ≡ false) where
   pub over-layout : layoutOk l ≡ false
   unfolding layoutOk
-  over-layout = rw (over-limit l.naxis1 0 l.columns l.tfields k h e, and-false, and-false, and-false, and-false, and-false, and-false)
+  over-layout =
+      rw (
+        over-limit l.naxis1 0 l.columns l.tfields k h e,
+        and-false,
+        and-false,
+        and-false,
+        and-false,
+        and-false,
+        and-false,
+      )
 
   pub over-opening : (a : List ℕ) (sel : Selection) (heap : Bool) → openWith l a sel heap ≡ notOpened 10
   unfolding openWith fits
   over-opening a sel heap = rw over-layout
 
-  pub over-step : (a : List ℕ) (c : TableData) (x : Step) → cursorStep l a c x ≡ record { reply = refused 10 0; cursor = c; list = lent x }
+  pub over-step : (a : List ℕ) (c : TableData) (x : Step)
+      → cursorStep l a c x ≡ record { reply = refused 10 0; cursor = c; list = lent x }
   unfolding cursorStep belongs fits
   over-step a c x = rw over-layout
 

@@ -122,24 +122,29 @@ emptyFields =
       pcount = 0;
       theap = 12;
       tfields = 4;
-      columns = column (F.Items T.I) 1 0 ∷ column (F.P T.E) 0 2 ∷ column (F.Items T.J) 1 2 ∷ column (F.Q T.D) 0 6 ∷ replicate 60 noColumn;
+      columns =
+          column (F.Items T.I) 1 0 ∷ column (F.P T.E) 0 2 ∷ column (F.Items T.J) 1 2 ∷ column (F.Q T.D) 0 6
+          ∷ replicate 60 noColumn;
     }
 
-empty-cells : (heap : Bool) → answers emptyFields area allColumns heap (readCell ∷ readCell ∷ readRow (someCell ∷ someCell ∷ []) ∷ readCell ∷ [])
+empty-cells : (heap : Bool)
+    → answers emptyFields area allColumns heap (readCell ∷ readCell ∷ readRow (someCell ∷ someCell ∷ []) ∷ readCell ∷ [])
     ≡ gotCell (cellOf 0 0 0 (D.Short (pos 1))) ∷ gotCell (cellOf 0 2 0 (D.Integer (pos 8000))) ∷ gotRow 2 ∷ atEnd ∷ []
 unfolding answers
 empty-cells true = refl
 empty-cells false = refl
 
 -- chosen alone, such a column gives no cell
-empty-alone : (heap : Bool) → answers emptyFields area (listed (1 ∷ [])) heap (readRow [] ∷ readCell ∷ seek 1 ∷ readRow [] ∷ readRow [] ∷ [])
+empty-alone : (heap : Bool)
+    → answers emptyFields area (listed (1 ∷ [])) heap (readRow [] ∷ readCell ∷ seek 1 ∷ readRow [] ∷ readRow [] ∷ [])
     ≡ gotRow 0 ∷ atEnd ∷ sought ∷ gotRow 0 ∷ atEnd ∷ []
 unfolding answers
 empty-alone true = refl
 empty-alone false = refl
 
 -- a layout with `2PE`, made by hand: 10
-two-descriptors : openWith (record { naxis1 = 16; naxis2 = 1; pcount = 0; theap = 16; tfields = 1; columns = column (F.P T.E) 2 0 ∷ replicate 63 noColumn })
+two-descriptors : openWith
+    (record { naxis1 = 16; naxis2 = 1; pcount = 0; theap = 16; tfields = 1; columns = column (F.P T.E) 2 0 ∷ replicate 63 noColumn })
     (replicate 16 0) allColumns true ≡ notOpened 10
 unfolding openWith fits layoutOk columnsOk letterWidth among bytes
 two-descriptors = refl

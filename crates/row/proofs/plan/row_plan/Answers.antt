@@ -1,4 +1,5 @@
--- `row_plan` meets its contract: where the tests of the pass hold for each column, and the sums come out, the row has no descriptor.
+-- `row_plan` meets its contract: where the tests of the pass hold for each column, and the sums come out, the row has no
+-- descriptor.
 use Rattle.std.proofs.Common.{ℕ, ◌≡◌, ◌≤◌, Bool, true, cond, List, sym, ap, subst, ◌∙◌, ◌&&◌, length, length-take, add-one, arith}
 use lib.Dec.{eqb}
 use borrow.Author.Tests.{eqb-true}
