@@ -70,18 +70,18 @@ module _ (l : BinTable) (a : List ℕ) (c : TableData) (r : Stepped)
   more x e = rw e at left
 
   -- of a cell
-  pub cell-added : (s t : ℕ) (x : Cell) → r.answer ≡ A.Cell x → sumThen s (cellsFrom l a c) ≡ t
+  pub cell_added : (s t : ℕ) (x : Cell) → r.answer ≡ A.Cell x → sumThen s (cellsFrom l a c) ≡ t
       → sumThen (addCell s x) (cellsFrom l a r.cursor) ≡ t
   unfolding addCells
-  cell-added s t x e same = subst (λ (o : Reading). sumThen s o ≡ t) (more x e) same
+  cell_added s t x e same = subst (λ (o : Reading). sumThen s o ≡ t) (more x e) same
 
-  pub cell-fewer : (x : Cell) → r.answer ≡ A.Cell x
+  pub cell_fewer : (x : Cell) → r.answer ≡ A.Cell x
       → length (cellsFrom l a r.cursor).cells < length (cellsFrom l a c).cells
-  cell-fewer x e = omega (arith, ap (λ (o : Reading). length o.cells) (more x e))
+  cell_fewer x e = omega (arith, ap (λ (o : Reading). length o.cells) (more x e))
 
   -- of any other answer
-  pub cells-ended : (s t : ℕ) → NoCell r.answer → sumThen s (cellsFrom l a c) ≡ t
+  pub cells_ended : (s t : ℕ) → NoCell r.answer → sumThen s (cellsFrom l a c) ≡ t
       → withNumber (numberIn r.answer) s ≡ t
   unfolding addCells
-  cells-ended s t k same =
+  cells_ended s t k same =
       subst (λ (o : Reading). sumThen s o ≡ t) (none-left l a _ r.answer r.cursor k left) same

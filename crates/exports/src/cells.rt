@@ -8,6 +8,7 @@ use super::{checksum, refusals};
 use layout::BinTable;
 use walk::{Answer, TableData};
 
+#[tactic(auto, using(crate::proofs::CellReads::cell_added, crate::proofs::CellReads::cells_ended))]
 pub fn sum_cells(layout: BinTable, area: &[u8], cursor: TableData) -> u64
     ensures { result ≡ readsSum (cellsFrom layout area.now cursor) }
 {
@@ -24,6 +25,7 @@ pub fn sum_cells(layout: BinTable, area: &[u8], cursor: TableData) -> u64
     }
 }
 
+#[tactic(auto, using(crate::proofs::CellReads::cell_added, crate::proofs::CellReads::cells_ended))]
 pub fn sum_lent(layout: BinTable, area: &[u8], cursor: TableData) -> u64
     ensures { result ≡ readsSum (cellsFrom layout area.now cursor) }
 {

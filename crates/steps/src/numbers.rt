@@ -1,6 +1,6 @@
 // The numbers of a line.
-ghost use Rattle.std.specs.Prelude.{◌≡◌, ◌<◌, ◌+◌, set, true};
-ghost use Rattle.steps.specs.Split.{parts};
+ghost use Rattle.std.specs.Prelude.{◌≡◌, ◌≤◌, ◌<◌, ◌+◌, drop, length, set, true};
+ghost use Rattle.steps.specs.Split.{before, parts};
 ghost use Rattle.steps.specs.Numbers.{numbers, areNumbers};
 ghost use Rattle.steps.specs.Line.{chooseBy, indexesOf, inPlaces};
 ghost use Rattle.ascii.specs.declared.Found.TheVariants.{At, Nothing};
@@ -8,13 +8,22 @@ ghost use Rattle.ascii.specs.declared.Found.TheVariants.{At, Nothing};
 use super::words;
 use ascii::Found;
 
+// The end of the part of a text that begins at a place.
+fn part_end(text: &[u8], at: usize) -> usize
+    requires { at ≤ length text.now }
+    ensures part { result ≡ at + before 32 (drop at text.now) }
+    ensures inside { result ≤ length text.now }
+{
+    at + words::bytes_before(&text[at..], 32)
+}
+
 // Whether the parts of a text are all numbers.
 pub fn all_numbers(text: &[u8]) -> bool
     ensures { result ≡ areNumbers (numbers (parts text.now)) }
 {
     let mut at: usize = 0;
     while at <= text.len() {
-        let end = at + words::bytes_before(&text[at..], 32);
+        let end = part_end(text, at);
         match ascii::digits::parse_number(&text[at..end]) {
             Found::At(_) => {
                 at = end + 1;
@@ -43,7 +52,7 @@ pub fn place_numbers(text: &[u8], list: &mut [usize])
 {
     let mut at: usize = 0;
     while at <= text.len() {
-        let end = at + words::bytes_before(&text[at..], 32);
+        let end = part_end(text, at);
         match ascii::digits::parse_number(&text[at..end]) {
             Found::At(n) => {
                 place_number(list, n);

@@ -1,9 +1,9 @@
 // The plain list of a row: how many entries it has, the entry at an index, and the next entry from a place on.
-ghost use Rattle.std.specs.Prelude.{◌≡◌, true, cond, ◌-◌, ◌≤◌, ◌<◌, length, get_or};
-ghost use Rattle.layout.specs.Layout.{dataLimit};
+ghost use Rattle.std.specs.Prelude.{ℕ, ◌≡◌, true, cond, ◌+◌, ◌-◌, ◌*◌, ◌≤◌, ◌<◌, length, get_or};
+ghost use Rattle.layout.specs.Layout.{dataLimit, dataSize, layoutOk};
 ghost use Rattle.cell.specs.Field.{field, sizeOf, ItemsInside};
 ghost use Rattle.walk.specs.declared.Entry.TheVariants.{OutsideHeap};
-ghost use Rattle.walk.specs.Plain.{entryIn, rowEntries};
+ghost use Rattle.walk.specs.Plain.{columnOf, entryIn, rowEntries};
 ghost use Rattle.walk.specs.Walk.{next};
 ghost use Rattle.walk.specs.Step.{fits};
 ghost use Rattle.table.specs.NextPlace.{nextPlace};
@@ -61,14 +61,34 @@ pub fn column_size(
     0
 }
 
+// Where a row starts and where the data end.
+#[derive(Clone, Copy)]
+pub struct RowSpan {
+    pub start: u64,
+    pub end: u64,
+}
+
+// The place of a row, in which its columns lie.
+fn row_span(layout: BinTable, row: u64) -> RowSpan
+    requires { (layoutOk layout ≡ true) × (row < layout.naxis2) }
+    ensures start { result.start ≡ row * layout.naxis1 }
+    ensures end { result.end ≡ dataSize layout }
+    ensures few { layout.tfields ≤ 64 }
+    ensures columns { (c : ℕ) → c < layout.tfields → result.start + (columnOf layout c).start ≤ dataLimit }
+{
+    let main = layout.naxis1 * layout.naxis2;
+    RowSpan {
+        start: row * layout.naxis1,
+        end: main + layout.pcount,
+    }
+}
+
 // How many entries a row has.
 pub fn row_size(layout: BinTable, area: &[u8], choice: u64, heap: bool, row: u64) -> u64
     requires { (fits layout area.now ≡ true) × (row < layout.naxis2) }
     ensures { result ≡ length (rowEntries layout area.now choice heap row) }
 {
-    let start = row * layout.naxis1;
-    let main = layout.naxis1 * layout.naxis2;
-    let end = main + layout.pcount;
+    let RowSpan { start, end } = row_span(layout, row);
     let mut total: u64 = 0;
     let mut c = pass::next_chosen(choice, 0);
     while c < layout.tfields {
@@ -132,9 +152,7 @@ pub fn entry_at(layout: BinTable, area: &[u8], choice: u64, heap: bool, row: u64
         × (k < length (rowEntries layout area.now choice heap row)) }
     ensures { result ≡ get_or (rowEntries layout area.now choice heap row) k (OutsideHeap 0) }
 {
-    let start = row * layout.naxis1;
-    let main = layout.naxis1 * layout.naxis2;
-    let end = main + layout.pcount;
+    let RowSpan { start, end } = row_span(layout, row);
     let mut left = k;
     let mut c = pass::next_chosen(choice, 0);
     while c < layout.tfields {

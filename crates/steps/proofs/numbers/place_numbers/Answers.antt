@@ -1,37 +1,28 @@
 -- `place_numbers` meets its contract: each number goes to its place, and no part is met that is none.
 use Rattle.std.proofs.Common.{sym, ◌∙◌, arith}
 use mathlib.Core.Bool.{false≢true}
-use Rattle.steps.proofs.Listing.{inside, all-next, all-stop, place-next, place_end}
+use Rattle.steps.proofs.Listing.{all-next, all-stop, place-next, place_end}
 use Rattle.steps.proofs.numbers.place_numbers.Goals as goal
-
-pub overflow_add-end : goal.overflow_add-end
-overflow_add-end c =
-    let b = c.bytes_before in
-    omega (arith, inside c.args.text.now c.loop-at.at c.loop-at-test.true b.result b.ensures)
-
-pub slice_bounds-parse_number-end : goal.slice_bounds-parse_number-end
-slice_bounds-parse_number-end c =
-    inside c.args.text.now c.loop-at.at c.loop-at-test.true c.bytes_before.result c.bytes_before.ensures
 
 pub loop-at-preserved : goal.loop-at-preserved
 loop-at-preserved c =
     let s = c.args.text.now in
     let l = c.loop-at in
     let h = c.loop-at-test.true in
-    let b = c.bytes_before in
+    let b = c.part_end-end in
     let number = sym c.in-At.ensures in (
-      omega (arith, inside s l.at h b.result b.ensures),
+      omega (arith, b.ensures.inside),
       c.place_number.auto.list ∙ l.invariant.1,
-      sym (all-next s l.at h b.result b.ensures _ number) ∙ l.invariant.2,
+      sym (all-next s l.at h b.result b.ensures.part _ number) ∙ l.invariant.2,
       rw c.place_number.ensures
-          (sym (place-next s l.at h b.result b.ensures l.list _ number l.invariant.2) ∙ l.invariant.3),
+          (sym (place-next s l.at h b.result b.ensures.part l.list _ number l.invariant.2) ∙ l.invariant.3),
     )
 
 pub returns-in-Nothing : goal.returns-in-Nothing
 returns-in-Nothing c =
     let l = c.loop-at in
-    let b = c.bytes_before in
-    let none = all-stop c.args.text.now l.at c.loop-at-test.true b.result b.ensures (sym c.in-Nothing.ensures) in
+    let b = c.part_end-end in
+    let none = all-stop c.args.text.now l.at c.loop-at-test.true b.result b.ensures.part (sym c.in-Nothing.ensures) in
     absurd (false≢true (sym none ∙ l.invariant.2))
 
 pub returns : goal.returns

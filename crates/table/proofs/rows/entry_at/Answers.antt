@@ -1,13 +1,13 @@
 -- `entry_at` meets its contract: the entry stands in column c, or further on, and the columns that are passed over have none.
-use Rattle.std.proofs.Common.{◌≡◌, true, ℕ, suc, ◌+◌, ◌-◌, ◌<◌, ◌≤◌, Bool, List, length, get_or, sym, ◌∙◌, ap, subst, add-one, arith}
+use Rattle.std.proofs.Common.{◌≡◌, true, ℕ, suc, ◌+◌, ◌-◌, ◌*◌, ◌<◌, ◌≤◌, Bool, List, length, get_or, sym, ◌∙◌, ap, subst, add-one, arith}
 use Rattle.layout.specs.declared.BinTable.{BinTable}
-use Rattle.layout.specs.Layout.{dataLimit}
+use Rattle.layout.specs.Layout.{dataLimit, dataSize}
 use Rattle.cell.specs.declared.Field.{Field}
-use Rattle.cell.specs.Field.{sizeOf, ItemsInside}
+use Rattle.cell.specs.Field.{field, sizeOf, ItemsInside}
 use Rattle.walk.specs.declared.Entry.{Entry}
 use Rattle.walk.specs.declared.Entry.TheVariants.{OutsideHeap}
 use Rattle.walk.specs.Plain.{columnOf, fieldOf, chosen, columnSize, entryIn}
-use Rattle.walk.proofs.Inside.{fits-layout, fits-limits, column-in-row, row-in-main, data-bound, items-bound}
+use Rattle.walk.proofs.Inside.{fits-layout, fits-limits, items-bound}
 use Rattle.walk.proofs.Laws.{from, from_row, from_end, length_from, at_here, at-later, size-chosen}
 use Rattle.table.proofs.ToNext.{next-later, next-chosen, next-from}
 use Rattle.table.proofs.rows.entry_at.Goals as goal
@@ -17,16 +17,14 @@ sized : (l : BinTable) (a : List ℕ) (choice : ℕ) (heap : Bool) (r c : ℕ) (
     → x ≡ fieldOf l a heap r c → k ≡ sizeOf x → k ≡ columnSize l a choice heap r c
 sized l a choice heap r c x k e f s = s ∙ ap sizeOf f ∙ rw e
 
-pub overflow_mul-start : goal.overflow_mul-start
-overflow_mul-start c =
-    let ok = fits-layout c.args.layout c.args.area.now c.requires.0 in
-    omega (arith, row-in-main c.args.layout ok c.args.row c.requires.1, data-bound c.args.layout ok)
+-- the field of a column, where the code reads it
+field-is : (l : BinTable) (a : List ℕ) (heap : Bool) (r c start end : ℕ) → start ≡ r * l.naxis1 → end ≡ dataSize l
+    → (x : Field) → x ≡ field a (start + (columnOf l c).start) (columnOf l c) heap l.theap end → x ≡ fieldOf l a heap r c
+unfolding fieldOf
+field-is l a heap r c start end s e x f = rw (s, e) at f
 
-pub overflow_mul-main : goal.overflow_mul-main
-overflow_mul-main c = omega (arith, data-bound c.args.layout (fits-layout c.args.layout c.args.area.now c.requires.0))
-
-pub overflow_add-end : goal.overflow_add-end
-overflow_add-end c = omega (arith, data-bound c.args.layout (fits-layout c.args.layout c.args.area.now c.requires.0))
+pub row_span-start-requires : goal.row_span-start-requires
+row_span-start-requires c = (fits-layout c.args.layout c.args.area.now c.requires.0, c.requires.1)
 
 pub loop-c-init : goal.loop-c-init
 loop-c-init c =
@@ -36,28 +34,11 @@ loop-c-init c =
       (rw e at c.requires.2, ap (λ (es : List Entry). get_or es c.args.k (OutsideHeap 0)) e),
     )
 
-pub offset_bounds-layout-c : goal.offset_bounds-layout-c
-offset_bounds-layout-c c = omega (arith, (fits-limits c.args.layout c.args.area.now c.requires.0).columns)
-
-pub bounds-layout-c : goal.bounds-layout-c
-bounds-layout-c c = omega (arith, (fits-limits c.args.layout c.args.area.now c.requires.0).columns)
-
-pub overflow_add-at : goal.overflow_add-at
-overflow_add-at c =
-    let ok = fits-layout c.args.layout c.args.area.now c.requires.0 in
-    omega (
-      arith,
-      column-in-row c.args.layout ok c.loop-c.c c.loop-c-test.true,
-      row-in-main c.args.layout ok c.args.row c.requires.1,
-      data-bound c.args.layout ok,
-    )
-
 pub entry_in-requires : goal.entry_in-requires
-unfolding fieldOf
 entry_in-requires c =
     let l = c.args.layout in let a = c.args.area.now in let m = c.args.choice in let b = c.args.heap in let r = c.args.row in
     let i = c.loop-c.c in
-    let f : c.read_field-field.result ≡ fieldOf l a b r i = c.read_field-field.ensures in
+    let f = field-is l a b r i _ _ c.row_span-start.ensures.start c.row_span-start.ensures.end _ c.read_field-field.ensures in
     let s = sized l a m b r i _ _ (c.loop-c.invariant.0 c.loop-c-test.true) f c.field_size-size.ensures in
     subst (λ (x : Field). (c.loop-c.left < sizeOf x) × ItemsInside dataLimit x) (sym f) (
       size-chosen l a m b r i c.loop-c.left (rw s at c.if-left-size.true),
@@ -65,11 +46,10 @@ entry_in-requires c =
     )
 
 pub returns-then-left-size : goal.returns-then-left-size
-unfolding fieldOf
 returns-then-left-size c =
     let l = c.args.layout in let a = c.args.area.now in let m = c.args.choice in let b = c.args.heap in let r = c.args.row in
     let i = c.loop-c.c in
-    let f : c.read_field-field.result ≡ fieldOf l a b r i = c.read_field-field.ensures in
+    let f = field-is l a b r i _ _ c.row_span-start.ensures.start c.row_span-start.ensures.end _ c.read_field-field.ensures in
     let s = sized l a m b r i _ _ (c.loop-c.invariant.0 c.loop-c-test.true) f c.field_size-size.ensures in
     c.entry_in.ensures
     ∙ ap (λ (x : Field). entryIn (columnOf l i) a r i x c.loop-c.left) f
@@ -83,11 +63,10 @@ loop-c-smaller c =
     omega (arith, c.loop-c-test.true, next-later c.args.choice (c.loop-c.c + 1) _ c.next_chosen-c-in-loop-c.ensures)
 
 pub loop-c-preserved : goal.loop-c-preserved
-unfolding fieldOf
 loop-c-preserved c =
     let l = c.args.layout in let a = c.args.area.now in let m = c.args.choice in let b = c.args.heap in let r = c.args.row in
     let i = c.loop-c.c in
-    let f : c.read_field-field.result ≡ fieldOf l a b r i = c.read_field-field.ensures in
+    let f = field-is l a b r i _ _ c.row_span-start.ensures.start c.row_span-start.ensures.end _ c.read_field-field.ensures in
     let s = sized l a m b r i _ _ (c.loop-c.invariant.0 c.loop-c-test.true) f c.field_size-size.ensures in
     let later : columnSize l a m b r i ≤ c.loop-c.left = rw s at c.if-left-size.false in
     let e = rw (add-one i) at

@@ -4,29 +4,23 @@ use Rattle.layout.specs.declared.BinTable.{BinTable}
 use Rattle.layout.specs.Layout.{dataSize}
 use Rattle.cell.specs.Field.{field, sizeOf}
 use Rattle.walk.specs.Plain.{columnOf, fieldOf, chosen, columnSize}
-use Rattle.walk.proofs.Inside.{fits-layout, fits-limits, column-in-row, row-in-main, data-bound, row-bound}
+use Rattle.walk.proofs.Inside.{fits-layout, fits-limits, row-bound}
 use Rattle.walk.proofs.Laws.{from, from_row, from_end, length_from}
 use Rattle.table.proofs.ToNext.{next-later, next-chosen, next-from}
 use Rattle.table.proofs.rows.row_size.Goals as goal
 
--- with the entries of column c the count goes on to the next column
-grows : (l : BinTable) (a : List ℕ) (choice : ℕ) (heap : Bool) (r c total k n : ℕ) → chosen choice c ≡ true → c < l.tfields
-    → k ≡ sizeOf (field a (r * l.naxis1 + (columnOf l c).start) (columnOf l c) heap l.theap (dataSize l))
+-- with the entries of column c, which the code reads at its place, the count goes on to the next column
+grows : (l : BinTable) (a : List ℕ) (choice : ℕ) (heap : Bool) (r c start end total k n : ℕ) → start ≡ r * l.naxis1 → end ≡ dataSize l
+    → chosen choice c ≡ true → c < l.tfields
+    → k ≡ sizeOf (field a (start + (columnOf l c).start) (columnOf l c) heap l.theap end)
     → total + length (from l a choice heap r c) ≡ n → total + (k + length (from l a choice heap r (suc c))) ≡ n
 unfolding fieldOf
-grows l a choice heap r c total k n e h s i =
-    let q : columnSize l a choice heap r c ≡ k = rw e (sym s) in omega (arith, i, q, length_from l a choice heap r c h)
+grows l a choice heap r c start end total k n p q e h s i =
+    let z : columnSize l a choice heap r c ≡ k = rw e (sym (rw (p, q) at s)) in
+    omega (arith, i, z, length_from l a choice heap r c h)
 
-pub overflow_mul-start : goal.overflow_mul-start
-overflow_mul-start c =
-    let ok = fits-layout c.args.layout c.args.area.now c.requires.0 in
-    omega (arith, row-in-main c.args.layout ok c.args.row c.requires.1, data-bound c.args.layout ok)
-
-pub overflow_mul-main : goal.overflow_mul-main
-overflow_mul-main c = omega (arith, data-bound c.args.layout (fits-layout c.args.layout c.args.area.now c.requires.0))
-
-pub overflow_add-end : goal.overflow_add-end
-overflow_add-end c = omega (arith, data-bound c.args.layout (fits-layout c.args.layout c.args.area.now c.requires.0))
+pub row_span-start-requires : goal.row_span-start-requires
+row_span-start-requires c = (fits-layout c.args.layout c.args.area.now c.requires.0, c.requires.1)
 
 pub loop-c-init : goal.loop-c-init
 loop-c-init c =
@@ -35,28 +29,13 @@ loop-c-init c =
       rw (from_row c.args.layout c.args.area.now c.args.choice c.args.heap c.args.row c.requires.1) (omega (arith, ap length e)),
     )
 
-pub offset_bounds-layout-c : goal.offset_bounds-layout-c
-offset_bounds-layout-c c = omega (arith, (fits-limits c.args.layout c.args.area.now c.requires.0).columns)
-
-pub bounds-layout-c : goal.bounds-layout-c
-bounds-layout-c c = omega (arith, (fits-limits c.args.layout c.args.area.now c.requires.0).columns)
-
-pub overflow_add-at : goal.overflow_add-at
-overflow_add-at c =
-    let ok = fits-layout c.args.layout c.args.area.now c.requires.0 in
-    omega (
-      arith,
-      column-in-row c.args.layout ok c.loop-c.c c.loop-c-test.true,
-      row-in-main c.args.layout ok c.args.row c.requires.1,
-      data-bound c.args.layout ok,
-    )
-
 pub overflow_add-total : goal.overflow_add-total
 overflow_add-total c =
     let ok = fits-layout c.args.layout c.args.area.now c.requires.0 in
     omega (
       arith,
-      grows c.args.layout c.args.area.now c.args.choice c.args.heap c.args.row c.loop-c.c c.loop-c.total _ _
+      grows c.args.layout c.args.area.now c.args.choice c.args.heap c.args.row c.loop-c.c _ _ c.loop-c.total _ _
+          c.row_span-start.ensures.start c.row_span-start.ensures.end
           (c.loop-c.invariant.0 c.loop-c-test.true) c.loop-c-test.true c.array_entries-size.ensures c.loop-c.invariant.1,
       row-bound c.args.layout ok c.args.area.now c.args.choice c.args.heap c.args.row,
     )
@@ -71,7 +50,8 @@ loop-c-preserved c =
       next-chosen c.args.choice (c.loop-c.c + 1) _ c.next_chosen-c-in-loop-c.ensures c.args.layout.tfields (fits-limits c.args.layout c.args.area.now c.requires.0).columns,
       omega (
         arith,
-        grows c.args.layout c.args.area.now c.args.choice c.args.heap c.args.row c.loop-c.c c.loop-c.total _ _
+        grows c.args.layout c.args.area.now c.args.choice c.args.heap c.args.row c.loop-c.c _ _ c.loop-c.total _ _
+            c.row_span-start.ensures.start c.row_span-start.ensures.end
             (c.loop-c.invariant.0 c.loop-c-test.true) c.loop-c-test.true c.array_entries-size.ensures c.loop-c.invariant.1,
         ap length (rw (add-one c.loop-c.c) at e),
       ),
