@@ -200,11 +200,16 @@ def noted_name(layout, header, i):
     return header[start:start + length]
 
 
+def in_capitals(name):
+    """The bytes 97 to 122, a to z, as 65 to 90, A to Z; every other byte as it is, also those above 127."""
+    return bytes(byte - 32 if 97 <= byte <= 122 else byte for byte in name)
+
+
 def find(layout, header, sought):
-    """The first column of that name, or None."""
+    """The first column of that name, in either case, or None."""
     for i in range(len(layout.columns)):
         name = noted_name(layout, header, i)
-        if name is not None and single(name) == sought:
+        if name is not None and in_capitals(single(name)) == in_capitals(sought):
             return i
     return None
 
@@ -631,10 +636,101 @@ def name_cases():
     ]
 
 
+def flipped(name, at):
+    """The name with one byte 32 away: bit 5 of it the other way round."""
+    return name[:at] + bytes([name[at] ^ 32]) + name[at + 1:]
+
+
+def doubled(name):
+    """Each quote as two, as a header has it."""
+    return name.replace(b"'", b"''")
+
+
+def ordered(names, order):
+    """Columns of one byte with these names, and in which order their TTYPEn stand, the columns counted from 0."""
+    return table(['1B'] * len(names), len(names)) + [keyword('TTYPE%d' % (i + 1), quoted(names[i])) for i in order]
+
+
+def each(numbers):
+    """Names of one byte."""
+    return [bytes([number]) for number in numbers]
+
+
+def apart_cases():
+    """Bytes that are 32 apart and not the two cases of a letter, each alone as a name.
+
+    The names of the first columns stand last in the header and are cut off. So each byte is sought
+    where the name of the other one comes first, or where only that of the other one is lent.
+    """
+    low, high = each([64, 91, 92, 93, 94, 95]), each([96, 123, 124, 125, 126, 127])
+    digits, controls, letters = each(range(48, 58)), each(range(16, 26)), each(range(80, 90))
+    large, small = each([0xc0, 0xc1, 0xc4, 0xd7, 0xda, 0xdf]), each([0xe0, 0xe1, 0xe4, 0xf7, 0xfa, 0xff])
+    last_first = list(range(6, 13)) + list(range(6))
+    return [
+        # the name of column 12 is in record 27, that of column 0 in record 28
+        case('the bytes next to the letters, each alone; cut behind the upper ones', 'accepted',
+             ordered(low + high + ['@AZ['], last_first), area=13, cut=27 * 80 + 15,
+             sought=low + high + ['@az[', '@aZ[', '@AZ[', '`AZ[', '@AZ{', '`az{']),
+        # the name of column 29 is in record 57, that of column 0 in record 58
+        case('digits, and the bytes 32 below and above them; cut behind all but the digits', 'accepted',
+             ordered(digits + controls + letters, list(range(10, 30)) + list(range(10))), area=30, cut=57 * 80 + 12,
+             sought=digits + controls + letters + each(range(112, 122)) + each(range(144, 154))),
+        case('bytes above 127, most of them letters in Latin-1, each alone; cut behind the upper ones', 'accepted',
+             ordered(large + small + [b'M\xc4RZ'], last_first), area=13, cut=27 * 80 + 15,
+             sought=large + small + [b'm\xc4rz', b'M\xc4RZ', b'm\xe4rz', b'M\xe4RZ']),
+    ]
+
+
+# the 172 bytes that are no letters and have no name of their own in the first two of those cases; a name has 14 of
+# them behind a letter, the last one 4
+OTHERS = bytes(range(16)) + bytes(range(26, 48)) + bytes(range(58, 64)) + bytes(range(128, 256))
+OTHER_NAMES = [b'%c' % (97 + k) + OTHERS[14 * k:14 * k + 14] for k in range(13)]
+
+# the names of columns 0 to 12, in records 33 to 21; that of column 1 starts at byte 2,571
+ALIKE = [
+    'weight', 'WEIGHT', 'WEIGHTED', "D''Or", "''q''''Q''", "''", '', '  Lead', 'Tail   ', 'A b', 'Time', 'tIME',
+    "''''g",
+]
+ALIKE_SOUGHT = [
+    'weight', 'WEIGHT', 'Weight', 'weighted', 'weigh', 'WEIGHTE', b'weight\0', 'eight', "d'oR", "D'Or", "d''or", 'dor',
+    "d'o", b'd\x07or', "'Q''q'", "'q'Q'", "''q''''q''", "'", "''", b'\x07', 'G', '', ' ', b'\0', '  lEAD', ' lead',
+    'lead', b'\0\0lead', 'tAIL', 'tail ', 'TAIL   ', b'tail\0', 'a B', 'aB', b'a\0b', 'TIME', 'Time', 'tIME', 'time',
+    'tim', "''G", "'G", "''''g", "'''g", b"'\x07g",
+]
+
+CAPITALS = (b'ABCDEFGHIJKLMNOPQRSTUVWXYZ' * 3)[:68]
+
+
+def in_case(i):
+    """68 letters, of which those are lower case whose place modulo 6 is a bit of i: none for 0, all for 63."""
+    return bytes(byte + 32 * (i >> at % 6 & 1) for at, byte in enumerate(CAPITALS))
+
+
+def either_case_cases():
+    """Which other bytes are alike, and which of several columns is found."""
+    others = [doubled(name) for name in OTHER_NAMES]
+    alike = [flipped(name, 0) for name in OTHER_NAMES]
+    near = [flipped(name, at) for name in alike for at in range(1, len(name))]
+    small = in_case(63)
+    return [
+        case('all the other bytes, 14 in a name; each of them 32 away is another name', 'accepted',
+             table(['1B'] * 13, 13, names=others), area=13, cut=FAR, sought=alike + near),
+        case('names in either case, from the last to the first; cut at the end of that of column 1', 'accepted',
+             ordered(ALIKE, range(12, -1, -1)), area=13, cut=2577, sought=ALIKE_SOUGHT),
+        # the name of column 63 is in record 72; the last of the 68 letters is P
+        case('64 names of 68 letters that differ in case only, the last column first; cut behind that one', 'accepted',
+             ordered([in_case(i) for i in range(64)], range(63, -1, -1)), area=64, cut=72 * 80 + 79,
+             sought=[CAPITALS, small, in_case(37), in_case(26), CAPITALS[:34] + small[34:], CAPITALS[:67],
+                     CAPITALS + b'Q', small + b' ', b'!' + CAPITALS[1:], b'\x81' + small[1:], CAPITALS[:67] + b'0',
+                     small[:67] + b'\x90', small[:67] + b'q']),
+    ]
+
+
 def named():
     """All of them."""
     return (example_cases() + whole_cases() + missing_cases() + unread_cases() + wrong_cases() + heap_cases()
-            + sum_cases() + order_cases() + form_cases() + empty_field_cases() + name_cases())
+            + sum_cases() + order_cases() + form_cases() + empty_field_cases() + name_cases() + apart_cases()
+            + either_case_cases())
 
 
 # ---- random cases ----
@@ -647,7 +743,11 @@ COUNTS = ['', '', '', '0', '1', '1', '2', '3', '7', '8', '9', '12', '16', '007',
 ONE_OR_NONE = ['', '', '', '1', '1', '1', '001', '0' * 30 + '1', '0', '0', '00', '0' * 30]
 ABOVE_ONE = ['2', '2', '3', '7', '8', '9', '16', '007', '0' * 30 + '2', '65536', '888888', '8388607', '8388608']
 RESTS = ['', '', '', '', '(20)', ' and more', 'Z', "''", '1E', '/', ' P']
-NAME_PARTS = ['A', 'A', 'B', 'b', '1', "''", ' ', '/', '_', b'\xe9', b'\0']
+LETTERS = each(range(65, 91)) + each(range(97, 123))
+NAME_PARTS = [
+    'A', 'A', 'A', 'a', 'a', 'B', 'b', 'Z', 'z', '@', '`', '[', '{', '_', b'\x7f', '1', 'Q', "''", ' ', '/', b'\xc9',
+    b'\xe9', b'\0',
+]
 BAD_TEXTS = [
     '', ' ', '3Z', ' 1E', '1e', '8', '-1E', '+1E', '1 E', '1P', '1Q(3)', '1PZ', 'PP', 'QQ', 'Pp', '1.0E', "''E", '1P E',
 ]
@@ -689,15 +789,40 @@ def random_form(rng):
     return digits + letter + rng.choice(RESTS)
 
 
-def random_name(rng):
-    return rng.choice([None, b'', some(rng, [' '], 4), some(rng, ['A', 'B'], 2), some(rng, NAME_PARTS, 5),
-                       some(rng, NAME_PARTS, 12)])
+def nearly(rng, name):
+    """The name in the other case, or one byte of it 32 away: a letter, a byte that is none, or any.
+
+    For bytes, `swapcase` and `isalpha` know the letters A to Z and a to z alone.
+    """
+    every_place = range(len(name))
+    letters = [at for at in every_place if name[at:at + 1].isalpha()]
+    rest = [at for at in every_place if at not in letters]
+    places = rng.choice([[], letters, rest, every_place])
+    if not places:
+        return name.swapcase()
+    at = rng.choice(places)
+    if places is not every_place:
+        return flipped(name, at)
+    return name[:at] + bytes([(name[at] + rng.choice([32, -32])) % 256]) + name[at + 1:]
+
+
+def random_name(rng, others):
+    """The string of a TTYPEn, or None for no TTYPEn; often nearly one of the others."""
+    given = [name for name in others if name]
+    if given and rng.randrange(4) == 0:
+        return doubled(nearly(rng, single(rng.choice(given))))
+    return rng.choice([
+        None, b'', some(rng, [' '], 4), some(rng, ['A', 'a', 'B', 'b'], 2), some(rng, NAME_PARTS, 5),
+        some(rng, NAME_PARTS, 12), some(rng, LETTERS, 8), doubled(some(rng, each(range(256)), 6)),
+    ])
 
 
 def random_records(rng):
     """The records of a sound table without END, and the bytes that its area must have."""
     forms = [random_form(rng) for _ in range(rng.choice([0, 1, 2, 2, 3, 3] + list(range(1, 13))))]
-    names = [random_name(rng) for _ in forms]
+    names = []
+    for _ in forms:
+        names.append(random_name(rng, names))
     naxis1 = sum(form_of(text(form))[2] for form in forms)
     most = AREA * 9 // 10 // naxis1 if naxis1 else 16777216
     rows = rng.choice([0, 1, 2, rng.randrange(most + 1), most])
@@ -864,10 +989,12 @@ def random_sought(rng, header, layout):
     for column in layout.columns:
         if column.stretch and rng.randrange(3):
             name = bytes_at(header, column.stretch)
+            one = single(name)
             made.append(rng.choice([
-                single(name), single(name), single(name), name, name + b' ', name[:-1], single(name) + b'A',
-                single(name).swapcase(), single(single(name)), single(name).lstrip(b' '),
+                one, one, one, name, name + b' ', name[:-1], one + b'A', single(one), one.lstrip(b' '),
             ]))
+            if one:
+                made += [nearly(rng, one), nearly(rng, nearly(rng, one))]
     made += [some(rng, NAME_PARTS, 3) for _ in range(rng.randrange(3))]
     rng.shuffle(made)
     return made
@@ -959,7 +1086,12 @@ find 0 full 0
 find 0 cut 0
 find 1 full 1
 find 1 cut none
-find 2 to 14 none
+find 2 to 2 none
+find 3 to 3 0
+find 4 to 8 none
+find 9 full 1
+find 9 cut none
+find 10 to 14 none
 ''',
     'cut one byte before the end of POS': '''
 accepted
@@ -976,7 +1108,13 @@ find 0 full 0
 find 0 cut none
 find 1 full 1
 find 1 cut none
-find 2 to 14 none
+find 2 to 2 none
+find 3 full 0
+find 3 cut none
+find 4 to 8 none
+find 9 full 1
+find 9 cut none
+find 10 to 14 none
 ''',
     '1: 2,881 bytes': '''
 refused 1 0
@@ -1286,7 +1424,8 @@ find 0 cut 1
 find 1 to 1 none
 find 2 full 3
 find 2 cut 3
-find 3 to 5 none
+find 3 to 4 none
+find 5 to 5 3
 find 6 full 4
 find 6 cut 4
 find 7 to 9 none
@@ -1298,7 +1437,10 @@ find 13 cut none
 find 14 to 14 none
 find 15 full 7
 find 15 cut none
-find 16 to 19 none
+find 16 to 16 none
+find 17 full 7
+find 17 cut none
+find 18 to 19 none
 find 20 full 9
 find 20 cut none
 find 21 to 22 none
@@ -1370,7 +1512,9 @@ name 3 full
 name 3 cut
 find 0 full 0
 find 0 cut 1
-find 1 to 2 none
+find 1 full 0
+find 1 cut 1
+find 2 to 2 none
 ''',
     'columns beyond TFIELDS hold nonsense': '''
 accepted
@@ -1389,9 +1533,78 @@ find 1 full 1
 find 1 cut none
 find 2 to 3 none
 ''',
+    'names in either case, from the last to the first; cut at the end of that of column 1': '''
+accepted
+table 13 columns 1 rows 13 bytes 0 pcount 13 theap
+column 0 B 1 at 0 bytes 1 stretch 2651 6
+column 1 B 1 at 1 bytes 1 stretch 2571 6
+column 2 B 1 at 2 bytes 1 stretch 2491 8
+column 3 B 1 at 3 bytes 1 stretch 2411 5
+column 4 B 1 at 4 bytes 1 stretch 2331 10
+column 5 B 1 at 5 bytes 1 stretch 2251 2
+column 6 B 1 at 6 bytes 1 stretch 2171 0
+column 7 B 1 at 7 bytes 1 stretch 2091 6
+column 8 B 1 at 8 bytes 1 stretch 2011 4
+column 9 B 1 at 9 bytes 1 stretch 1931 3
+column 10 B 1 at 10 bytes 1 stretch 1851 4
+column 11 B 1 at 11 bytes 1 stretch 1771 4
+column 12 B 1 at 12 bytes 1 stretch 1691 5
+name 0 full 119 101 105 103 104 116
+name 0 cut
+name 1 full 87 69 73 71 72 84
+name 1 cut 87 69 73 71 72 84
+name 2 full 87 69 73 71 72 84 69 68
+name 2 cut 87 69 73 71 72 84 69 68
+name 3 full 68 39 39 79 114
+name 3 cut 68 39 39 79 114
+name 4 full 39 39 113 39 39 39 39 81 39 39
+name 4 cut 39 39 113 39 39 39 39 81 39 39
+name 5 full 39 39
+name 5 cut 39 39
+name 6 to 6 empty
+name 7 full 32 32 76 101 97 100
+name 7 cut 32 32 76 101 97 100
+name 8 full 84 97 105 108
+name 8 cut 84 97 105 108
+name 9 full 65 32 98
+name 9 cut 65 32 98
+name 10 full 84 105 109 101
+name 10 cut 84 105 109 101
+name 11 full 116 73 77 69
+name 11 cut 116 73 77 69
+name 12 full 39 39 39 39 103
+name 12 cut 39 39 39 39 103
+name 13 to 13 empty
+find 0 full 0
+find 0 cut 1
+find 1 full 0
+find 1 cut 1
+find 2 full 0
+find 2 cut 1
+find 3 to 3 2
+find 4 to 7 none
+find 8 to 9 3
+find 10 to 13 none
+find 14 to 14 4
+find 15 to 16 none
+find 17 to 17 5
+find 18 to 20 none
+find 21 to 21 6
+find 22 to 23 none
+find 24 to 24 7
+find 25 to 27 none
+find 28 to 28 8
+find 29 to 31 none
+find 32 to 32 9
+find 33 to 34 none
+find 35 to 38 10
+find 39 to 39 none
+find 40 to 40 12
+find 41 to 44 none
+''',
 }
 
-# the columns of two more cases, whose names are long or many
+# the columns of some more cases, whose names are long or many
 WORKED_COLUMNS = {
     'names up to the end of the record': {
         0: 'column 0 B 1 at 0 bytes 1 stretch 1131 68',
@@ -1406,26 +1619,61 @@ WORKED_COLUMNS = {
         32: 'column 32 B 1 at 32 bytes 1 stretch 32171 3',
         63: 'column 63 B 1 at 63 bytes 1 stretch 56971 3',
     },
+    'the bytes next to the letters, each alone; cut behind the upper ones': {
+        0: 'column 0 B 1 at 0 bytes 1 stretch 2251 1',
+        6: 'column 6 B 1 at 6 bytes 1 stretch 1691 1',
+        12: 'column 12 B 1 at 12 bytes 1 stretch 2171 4',
+    },
+    'digits, and the bytes 32 below and above them; cut behind all but the digits': {
+        0: 'column 0 B 1 at 0 bytes 1 stretch 4651 1',
+        10: 'column 10 B 1 at 10 bytes 1 stretch 3051 1',
+        29: 'column 29 B 1 at 29 bytes 1 stretch 4571 1',
+    },
+    'all the other bytes, 14 in a name; each of them 32 away is another name': {
+        0: 'column 0 B 1 at 0 bytes 1 stretch 1691 15',
+        2: 'column 2 B 1 at 2 bytes 1 stretch 1851 16',
+        12: 'column 12 B 1 at 12 bytes 1 stretch 2651 5',
+    },
+    '64 names of 68 letters that differ in case only, the last column first; cut behind that one': {
+        0: 'column 0 B 1 at 0 bytes 1 stretch 10811 68',
+        63: 'column 63 B 1 at 63 bytes 1 stretch 5771 68',
+    },
 }
 WORKED_FINDS = {
     'names up to the end of the record': '0 0, none none, none none, 1 none, none none, none none, 2 none, 3 none, '
                                          '4 none, 5 none',
     'the longest header, 57,600 bytes, 64 names all over it':
-        '0 0, 63 none, 32 32, 33 none, none none, none none, 5 5, none none, none none, none none',
+        '0 0, 63 none, 32 32, 33 none, none none, none none, 5 5, 63 none, none none, none none',
+    'the bytes next to the letters, each alone; cut behind the upper ones':
+        '0 none, 1 none, 2 none, 3 none, 4 none, 5 none, 6 6, 7 7, 8 8, 9 9, 10 10, 11 11, 12 12, 12 12, 12 12, '
+        'none none, none none, none none',
+    'digits, and the bytes 32 below and above them; cut behind all but the digits':
+        '0 none, 1 none, 2 none, 3 none, 4 none, 5 none, 6 none, 7 none, 8 none, 9 none, '
+        '10 10, 11 11, 12 12, 13 13, 14 14, 15 15, 16 16, 17 17, 18 18, 19 19, '
+        '20 20, 21 21, 22 22, 23 23, 24 24, 25 25, 26 26, 27 27, 28 28, 29 29, '
+        '20 20, 21 21, 22 22, 23 23, 24 24, 25 25, 26 26, 27 27, 28 28, 29 29' + ', none none' * 10,
+    'bytes above 127, most of them letters in Latin-1, each alone; cut behind the upper ones':
+        '0 none, 1 none, 2 none, 3 none, 4 none, 5 none, 6 6, 7 7, 8 8, 9 9, 10 10, 11 11, 12 12, 12 12, '
+        'none none, none none',
+    'all the other bytes, 14 in a name; each of them 32 away is another name':
+        '0 0, 1 1, 2 2, 3 3, 4 4, 5 5, 6 6, 7 7, 8 8, 9 9, 10 10, 11 11, 12 12' + ', none none' * 172,
+    '64 names of 68 letters that differ in case only, the last column first; cut behind that one':
+        '0 63, 0 63, 0 63, 0 63, 0 63' + ', none none' * 8,
 }
 
 
 def spelled(worked):
-    """The lines of a text above: `find 2 to 4 none` is six lines, and so is `name 2 to 4 empty`."""
+    """The lines of a text above: `find 2 to 4 none` is six lines, and so are `find 2 to 4 0`, `name 2 to 4 empty`."""
     lines = []
     for line in worked.strip().split('\n'):
-        found = re.fullmatch('(find|name) ([0-9]+) to ([0-9]+) (none|empty)', line)
+        found = re.fullmatch('(find|name) ([0-9]+) to ([0-9]+) (none|empty|[0-9]+)', line)
         if not found:
             lines.append(line)
             continue
-        for i in range(int(found.group(2)), int(found.group(3)) + 1):
+        kind, first, last, what = found.groups()
+        for i in range(int(first), int(last) + 1):
             for word in ('full', 'cut'):
-                lines.append('%s %d %s%s' % (found.group(1), i, word, ' none' if found.group(1) == 'find' else ''))
+                lines.append('%s %d %s%s' % (kind, i, word, ' ' + what if kind == 'find' else ''))
     return lines
 
 
@@ -1442,9 +1690,9 @@ def self_check():
         for i, line in columns.items():
             assert lines[2 + i] == line, (why, i)
     for why, finds in WORKED_FINDS.items():
-        for j, pair in enumerate(finds.split(', ')):
-            for word, found in zip(('full', 'cut'), pair.split()):
-                assert 'find %d %s %s' % (j, word, found) in said_of(cases[why]), (why, j)
+        worked = ['find %d %s %s' % (j, word, found) for j, pair in enumerate(finds.split(', '))
+                  for word, found in zip(('full', 'cut'), pair.split())]
+        assert [line for line in said_of(cases[why]) if line.startswith('find ')] == worked, why
     assert TABLE_NAMES == [name.decode('ascii') for name in NINE]
 
 

@@ -1,3 +1,6 @@
 pub mod Quotes
+pub mod Alike
 pub mod Named
+pub mod First
+pub mod EitherCase
 pub mod Ok

@@ -1,7 +1,7 @@
 -- The part of a header that is a name, and the columns searched so far.
 -- Assumes nothing.
 use mathlib.Core.Path.{◌≡◌, refl}
-use mathlib.Core.Bool.{true, false}
+use mathlib.Core.Bool.{Bool, true, false}
 use mathlib.Core.List.{List, [], ◌∷◌}
 use Prim.Native.Nat.{ℕ, ◌+◌, ◌-◌, ◌≤◌, ◌<◌, suc}
 use native.Mathlib.Numerals.{add-one}
@@ -17,7 +17,7 @@ use Rattle.layout.specs.declared.Name.TheVariants.{Missing, Stretch}
 use Rattle.layout.specs.declared.Column.{Column}
 use Rattle.layout.specs.declared.BinTable.{BinTable}
 use Rattle.layout.specs.Layout.{noColumn, columnsOf}
-use Rattle.layout.specs.Names.{inHeader, stretchOf, partOf, columnName, hasName, firstNamed, findName}
+use Rattle.layout.specs.Names.{inHeader, stretchOf, partOf, columnName, hasName, firstColumn, findName}
 
 module _ (h : List ℕ) where
   pub part-missing : [] ≡ partOf h Missing
@@ -50,34 +50,34 @@ module _ (h : List ℕ) where
     unfolding columnName
     name-at p = rw (lt-ltb c l.tfields p)
 
-  -- the search, from column i on
-  module _ (sought : List ℕ) (cs : List Column) (i : ℕ) where
-    pub named_here : i < length cs → hasName h sought (get_or cs i noColumn) ≡ true → At i ≡ firstNamed h sought i (drop i cs)
-    unfolding firstNamed
-    named_here p e = rw (drop-cons cs i noColumn p, e)
+-- the search, from column i on
+module _ (test : Column → Bool) (cs : List Column) (i : ℕ) where
+  pub named_here : i < length cs → test (get_or cs i noColumn) ≡ true → At i ≡ firstColumn test i (drop i cs)
+  unfolding firstColumn
+  named_here p e = rw (drop-cons cs i noColumn p, e)
 
-    pub named-later : i < length cs → hasName h sought (get_or cs i noColumn) ≡ false → firstNamed h sought i (drop i cs) ≡ firstNamed h sought (i + 1) (drop (i + 1) cs)
-    unfolding firstNamed
-    named-later p e = rw (add-one i, drop-cons cs i noColumn p, e)
+  pub named-later : i < length cs → test (get_or cs i noColumn) ≡ false → firstColumn test i (drop i cs) ≡ firstColumn test (i + 1) (drop (i + 1) cs)
+  unfolding firstColumn
+  named-later p e = rw (add-one i, drop-cons cs i noColumn p, e)
 
-    pub named_none : length cs ≤ i → Nothing ≡ firstNamed h sought i (drop i cs)
-    unfolding firstNamed
-    named_none p = rw (drop_of_length-le cs {i = i} p)
+  pub named_none : length cs ≤ i → Nothing ≡ firstColumn test i (drop i cs)
+  unfolding firstColumn
+  named_none p = rw (drop_of_length-le cs {i = i} p)
 
 pub column-at : (l : BinTable) (i : ℕ) → i < l.tfields → get_or (columnsOf l) i noColumn ≡ get_or l.columns i noColumn
 column-at l i p = get_or-take l.tfields l.columns i noColumn p
 
 -- a column that is found is one of the layout's
-found_from : (h sought : List ℕ) (i : ℕ) (cs : List Column) (c : ℕ) → firstNamed h sought i cs ≡ At c → c < i + length cs
-unfolding firstNamed
-found_from h sought i [] c e = absurd (let z : ◌≡◌ {A = ℕ} 0 1 = cc in omega arith)
-found_from h sought i (x ∷ xs) c e =
-    either (hasName h sought x)
+found_from : (test : Column → Bool) (i : ℕ) (cs : List Column) (c : ℕ) → firstColumn test i cs ≡ At c → c < i + length cs
+unfolding firstColumn
+found_from test i [] c e = absurd (let z : ◌≡◌ {A = ℕ} 0 1 = cc in omega arith)
+found_from test i (x ∷ xs) c e =
+    either (test x)
     (λ t. let q = rw t at e in let r : i ≡ c = cc in omega arith)
-    (λ t. omega (arith, found_from h sought (suc i) xs c (rw t at e)))
+    (λ t. omega (arith, found_from test (suc i) xs c (rw t at e)))
 
 pub found-inside : (h : List ℕ) (l : BinTable) (sought : List ℕ) (c : ℕ) → findName h l sought ≡ At c → (c < l.tfields) × (c < length l.columns)
 unfolding findName
 found-inside h l sought c e =
-    let p = found_from h sought 0 (columnsOf l) c e in let n = length-take l.tfields l.columns in
+    let p = found_from (hasName h sought) 0 (columnsOf l) c e in let n = length-take l.tfields l.columns in
     (omega (arith, p, n), omega (arith, p, n))

@@ -1,18 +1,18 @@
 -- A name compared byte by byte, two quotes taken as one.
 -- Assumes nothing.
 use mathlib.Core.Path.{◌≡◌, sym, ◌∙◌, ap}
-use mathlib.Core.Bool.{false, ◌&&◌, and-false, cond}
+use mathlib.Core.Bool.{true, false, ◌&&◌, and-false, cond}
 use mathlib.Core.List.{List, [], ◌∷◌}
 use Prim.Native.Nat.{ℕ, suc, ◌+◌, ◌≤◌, ◌<◌}
 use native.Mathlib.Numerals.{add-one, lt_of_le_of_ne}
 use native.Mathlib.Omega.{arith}
 use lib.Dec.{eqb, ltb}
+use lib.Pointwise.{pointwise}
 use lib.ListN.{length, get_or, drop, drop_of_length-le, get_or-eq_default}
 use lib.Seq.{drop-cons, drop-drop, get_or-drop}
-use borrow.Author.Tests.{eq-eqb, ne_eqb, eqb-true, eqb-false, ltb-true, ltb-false}
-use Rattle.ascii.specs.Text.{same}
+use borrow.Author.Tests.{ne_eqb, eqb-true, eqb-false, ltb-true, ltb-false}
 use Rattle.ascii.proofs.Cases.{either, by-test, both}
-use Rattle.layout.specs.Names.{undoubled}
+use Rattle.layout.specs.Names.{undoubled, alike}
 
 -- how many bytes count as the one at i
 abbrev pub byteLen : List ℕ → ℕ → ℕ
@@ -64,20 +64,16 @@ len-least p i = by-test (λ (n : ℕ). 1 ≤ n) (eqb (get_or p i 0) 39 && eqb (g
 
 -- one byte of the name sought
 module _ (x : ℕ) (xs s : List ℕ) (j : ℕ) where
-  pub sought-over : length s ≤ j → same (x ∷ xs) (drop j s) ≡ false
-  unfolding same
+  pub sought-over : length s ≤ j → pointwise alike (x ∷ xs) (drop j s) ≡ false
   sought-over h = rw (drop_of_length-le s {i = j} h)
 
-  pub sought-other : j < length s → (x ≡ get_or s j 0 → ⊥) → same (x ∷ xs) (drop j s) ≡ false
-  unfolding same
-  sought-other h n = rw (drop-cons s j 0 h, ne_eqb x (get_or s j 0) n)
+  pub sought-other : j < length s → alike x (get_or s j 0) ≡ false → pointwise alike (x ∷ xs) (drop j s) ≡ false
+  sought-other h n = rw (drop-cons s j 0 h, n)
 
-  pub sought-next : j < length s → x ≡ get_or s j 0 → same (x ∷ xs) (drop j s) ≡ same xs (drop (j + 1) s)
-  unfolding same
-  sought-next h e = rw (add-one j, drop-cons s j 0 h, eq-eqb x (get_or s j 0) e)
+  pub sought-next : j < length s → alike x (get_or s j 0) ≡ true → pointwise alike (x ∷ xs) (drop j s) ≡ pointwise alike xs (drop (j + 1) s)
+  sought-next h e = rw (add-one j, drop-cons s j 0 h, e)
 
-pub sought-end : (s : List ℕ) (j : ℕ) → j ≤ length s → same [] (drop j s) ≡ eqb j (length s)
-unfolding same
+pub sought-end : (s : List ℕ) (j : ℕ) → j ≤ length s → pointwise alike [] (drop j s) ≡ eqb j (length s)
 sought-end s j h =
     either (eqb j (length s))
     (λ e. rw (e, drop_of_length-le s {i = j} (omega (arith, eqb-true j (length s) e))))

@@ -1,2 +1,3 @@
 pub mod Layout
 pub mod Names
+pub mod EitherCase

@@ -1,7 +1,7 @@
 -- The names of columns (FORMAT.md, section 9; the standard, 7.3.2): the part of a header that is a column's name, and the column of a name.
 -- Assumes nothing.
+use lib.Pointwise.{pointwise}
 use Rattle.std.specs.Prelude.{ℕ, suc, ◌+◌, List, [], ◌∷◌, Bool, false, ◌&&◌, cond, length, get_or, take, drop, eqb, leb, ltb}
-use Rattle.ascii.specs.Text.{same}
 use Rattle.ascii.specs.declared.Found.{Found}
 use Rattle.ascii.specs.declared.Found.TheVariants.{At, Nothing}
 use Rattle.layout.specs.declared.Name.{Name}
@@ -34,19 +34,27 @@ undoubled [] = []
 undoubled (b ∷ []) = b ∷ []
 undoubled (b ∷ c ∷ cs) = cond (eqb b 39 && eqb c 39) (b ∷ undoubled cs) (b ∷ undoubled (c ∷ cs))
 
--- whether a name of the header is the one sought
+-- A (65) to Z (90) as a to z, 32 further; every other byte as it is
+abbrev pub lowercase : ℕ → ℕ
+lowercase b = cond (leb 65 b && leb b 90) (b + 32) b
+
+-- whether two bytes are alike: the same byte, or the same letter in two cases
+abbrev pub alike : ℕ → ℕ → Bool
+alike a b = eqb (lowercase a) (lowercase b)
+
+-- whether a name of the header is the one sought: as many bytes, each alike
 abbrev pub sameName : List ℕ → List ℕ → Bool
-sameName part sought = same (undoubled part) sought
+sameName part sought = pointwise alike (undoubled part) sought
 
 -- whether a column has the name sought
 abbrev pub hasName : List ℕ → List ℕ → Column → Bool
 hasName h sought c = inHeader h c.name && sameName (stretchOf h c.name) sought
 
--- the first of some columns that has the name, counted from c
-unfoldable pub firstNamed : List ℕ → List ℕ → ℕ → List Column → Found
-firstNamed h sought c [] = Nothing
-firstNamed h sought c (x ∷ xs) = cond (hasName h sought x) (At c) (firstNamed h sought (suc c) xs)
+-- the first of some columns that passes a test, counted from c
+unfoldable pub firstColumn : (Column → Bool) → ℕ → List Column → Found
+firstColumn test c [] = Nothing
+firstColumn test c (x ∷ xs) = cond (test x) (At c) (firstColumn test (suc c) xs)
 
 -- the first column that has the name
 unfoldable pub findName : List ℕ → BinTable → List ℕ → Found
-findName h l sought = firstNamed h sought 0 (columnsOf l)
+findName h l sought = firstColumn (hasName h sought) 0 (columnsOf l)

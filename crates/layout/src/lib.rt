@@ -90,7 +90,7 @@ pub fn column_name(header: &[u8], layout: BinTable, column: usize) -> &[u8]
     ttype::part(header, name)
 }
 
-// The first column that has this name, two quotes of the header counted as one.
+// The first column that has this name, in either case, two quotes of the header counted as one.
 pub fn find_field_by_ttype(header: &[u8], layout: BinTable, name: &[u8]) -> Found
     ensures { result ≡ findName header.now layout name.now }
 {

@@ -1,6 +1,6 @@
 // The names of columns, in a header that may be another than the one the layout was made from.
 ghost use Rattle.std.specs.Prelude.{◌≡◌, ◌&&◌, cond, ◌+◌, ◌<◌, min, eqb, length, get_or};
-ghost use Rattle.layout.specs.Names.{inHeader, stretchOf, partOf, sameName};
+ghost use Rattle.layout.specs.Names.{inHeader, stretchOf, partOf, lowercase, alike, sameName};
 
 use super::{Name, TFIELDS_LIMIT};
 
@@ -57,6 +57,26 @@ fn byte_len(part: &[u8], at: usize) -> usize
     2
 }
 
+// A to Z as a to z; every other byte as it is.
+fn lowercase(byte: u8) -> u8
+    ensures { result ≡ lowercase byte }
+{
+    if byte < 65 {
+        return byte;
+    }
+    if 90 < byte {
+        return byte;
+    }
+    byte + 32
+}
+
+// Whether two bytes are the same, or the same letter in two cases.
+fn alike(a: u8, b: u8) -> bool
+    ensures { result ≡ alike a b }
+{
+    lowercase(a) == lowercase(b)
+}
+
 // Whether a name of the header is the one sought.
 fn same_name(part: &[u8], sought: &[u8]) -> bool
     ensures { result ≡ sameName part.now sought.now }
@@ -67,7 +87,7 @@ fn same_name(part: &[u8], sought: &[u8]) -> bool
         if j == sought.len() {
             return false;
         }
-        if part[i] != sought[j] {
+        if !alike(part[i], sought[j]) {
             return false;
         }
         i += byte_len(part, i);

@@ -18,17 +18,17 @@ returns-then-has_name c =
     let l = c.args.layout in let i = c.loop-i.i in
     let n = columns l (omega arith) in
     let e : hasName c.args.header.now c.args.name.now (get_or (columnsOf l) i noColumn) ≡ true = rw (column-at l i (omega arith)) (cc) in
-    named_here c.args.header.now c.args.name.now (columnsOf l) i (omega (arith, n)) e ∙ sym c.loop-i.invariant
+    named_here (hasName c.args.header.now c.args.name.now) (columnsOf l) i (omega (arith, n)) e ∙ sym c.loop-i.invariant
 
 pub loop-i-preserved : goal.loop-i-preserved
 loop-i-preserved c =
     let l = c.args.layout in let i = c.loop-i.i in
     let n = columns l (omega arith) in
     let e : hasName c.args.header.now c.args.name.now (get_or (columnsOf l) i noColumn) ≡ false = rw (column-at l i (omega arith)) (cc) in
-    c.loop-i.invariant ∙ named-later c.args.header.now c.args.name.now (columnsOf l) i (omega (arith, n)) e
+    c.loop-i.invariant ∙ named-later (hasName c.args.header.now c.args.name.now) (columnsOf l) i (omega (arith, n)) e
 
 pub returns : goal.returns
 returns c =
     let l = c.args.layout in
     let n = columns l (omega arith) in
-    named_none c.args.header.now c.args.name.now (columnsOf l) c.loop-i.i (omega (arith, n)) ∙ sym c.loop-i.invariant
+    named_none (hasName c.args.header.now c.args.name.now) (columnsOf l) c.loop-i.i (omega (arith, n)) ∙ sym c.loop-i.invariant

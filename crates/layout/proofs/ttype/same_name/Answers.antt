@@ -1,38 +1,51 @@
 -- `same_name` meets its contract: each step takes one byte of both names, two quotes of the header as one.
-use Rattle.std.proofs.Common.{◌≡◌, ◌+◌, ◌<◌, ℕ, List, ◌∷◌, length, get_or, drop, sym, ◌∙◌, ap, arith}
+use Rattle.std.proofs.Common.{◌≡◌, ◌+◌, ◌<◌, ◌≤◌, ℕ, List, ◌∷◌, true, false, length, get_or, drop, sym, ◌∙◌, ap, arith}
 use native.Mathlib.Numerals.{lt_of_le_of_ne}
-use Rattle.ascii.specs.Text.{same}
-use Rattle.layout.specs.Names.{undoubled, sameName}
+use lib.Pointwise.{pointwise}
+use Rattle.layout.specs.Names.{undoubled, alike, sameName}
 use Rattle.layout.proofs.Quotes.{byteLen, undoubled-next, undoubled-end, len-inside, sought-over, sought-other, sought-next, sought-end}
 use Rattle.layout.proofs.ttype.same_name.Goals as goal
 
 -- the next byte of the name stands at i
-next : (p s : List ℕ) (i j : ℕ) → sameName p s ≡ same (undoubled (drop i p)) (drop j s) → i < length p
-    → sameName p s ≡ same (get_or p i 0 ∷ undoubled (drop (i + byteLen p i) p)) (drop j s)
-next p s i j e h = e ∙ ap (λ (l : List ℕ). same l (drop j s)) (undoubled-next p i h)
+module _ (p s : List ℕ) (i j : ℕ) (e : sameName p s ≡ pointwise alike (undoubled (drop i p)) (drop j s)) (h : i < length p) where
+  abbrev byte : ℕ
+  byte = get_or p i 0
+
+  abbrev rest : List ℕ
+  rest = undoubled (drop (i + byteLen p i) p)
+
+  next : sameName p s ≡ pointwise alike (byte ∷ rest) (drop j s)
+  next = e ∙ ap (λ (l : List ℕ). pointwise alike l (drop j s)) (undoubled-next p i h)
+
+  over : length s ≤ j → false ≡ sameName p s
+  over n = sym (next ∙ sought-over byte rest s j n)
+
+  other : j < length s → alike byte (get_or s j 0) ≡ false → false ≡ sameName p s
+  other n t = sym (next ∙ sought-other byte rest s j n t)
+
+  more : j < length s → alike byte (get_or s j 0) ≡ true → sameName p s ≡ pointwise alike rest (drop (j + 1) s)
+  more n t = next ∙ sought-next byte rest s j n t
 
 pub returns-then-j-sought : goal.returns-then-j-sought
 returns-then-j-sought c =
-    let p = c.args.part.now in let s = c.args.sought.now in
-    sym (next p s _ c.loop-i.j c.loop-i.invariant.2 c.loop-i-test.true ∙ sought-over _ _ s c.loop-i.j (omega arith))
+    over c.args.part.now c.args.sought.now _ c.loop-i.j c.loop-i.invariant.2 c.loop-i-test.true (omega arith)
 
-pub returns-then-part-i : goal.returns-then-part-i
-returns-then-part-i c =
-    let p = c.args.part.now in let s = c.args.sought.now in
-    sym (next p s _ c.loop-i.j c.loop-i.invariant.2 c.loop-i-test.true
-    ∙ sought-other _ _ s c.loop-i.j (lt_of_le_of_ne c.loop-i.invariant.1 c.if-j-sought.false) c.if-part-i.true)
+pub returns-then-not-alike : goal.returns-then-not-alike
+returns-then-not-alike c =
+    other c.args.part.now c.args.sought.now _ c.loop-i.j c.loop-i.invariant.2 c.loop-i-test.true
+    (lt_of_le_of_ne c.loop-i.invariant.1 c.if-j-sought.false) (sym c.alike.ensures ∙ c.if-not-alike.true)
 
 pub loop-i-preserved : goal.loop-i-preserved
 loop-i-preserved c =
     let p = c.args.part.now in let s = c.args.sought.now in let i = c.loop-i.i in let j = c.loop-i.j in
-    let more : j < length s = lt_of_le_of_ne c.loop-i.invariant.1 c.if-j-sought.false in (
+    let n : j < length s = lt_of_le_of_ne c.loop-i.invariant.1 c.if-j-sought.false in (
       rw c.byte_len-i.ensures (len-inside p i c.loop-i-test.true),
       omega arith,
-      rw c.byte_len-i.ensures (next p s i j c.loop-i.invariant.2 c.loop-i-test.true ∙ sought-next _ _ s j more c.if-part-i.false),
+      rw c.byte_len-i.ensures (more p s i j c.loop-i.invariant.2 c.loop-i-test.true n (sym c.alike.ensures ∙ c.if-not-alike.false)),
     )
 
 pub returns : goal.returns
 returns c =
     let p = c.args.part.now in let s = c.args.sought.now in
-    sym (c.loop-i.invariant.2 ∙ ap (λ (l : List ℕ). same l (drop c.loop-i.j s)) (undoubled-end p c.loop-i.i c.loop-i-test.false)
+    sym (c.loop-i.invariant.2 ∙ ap (λ (l : List ℕ). pointwise alike l (drop c.loop-i.j s)) (undoubled-end p c.loop-i.i c.loop-i-test.false)
     ∙ sought-end s c.loop-i.j c.loop-i.invariant.1)

@@ -1,0 +1,85 @@
+-- Bytes and names that are alike.
+-- Assumes nothing.
+use Prim.Native.Nat.{ℕ, zero, suc, ◌+◌, ◌≤◌}
+use mathlib.Core.Path.{◌≡◌, refl, sym, ◌∙◌}
+use mathlib.Core.Bool.{true, false, ◌&&◌, ◌||◌, false≢true, and-false}
+use mathlib.Core.List.{List, [], ◌∷◌}
+use native.Mathlib.Omega.{arith}
+use lib.Dec.{eqb}
+use lib.ListN.{get_or, take, drop}
+use lib.Pointwise.{pointwise}
+use Rattle.std.specs.Cmp.{IsEquivalence, nat_eq_equiv}
+use Rattle.std.specs.Cmp.Lexicographic.{lists_equiv}
+use Rattle.ascii.specs.Text.{same}
+use Rattle.ascii.proofs.Cases.{either, both}
+use Rattle.ascii.proofs.Same.{same-true}
+use Rattle.layout.specs.Names.{lowercase, alike, undoubled}
+use Rattle.layout.specs.EitherCase.{letter}
+
+-- to be alike is an equivalence, of bytes and of names
+pub alike-equivalence : IsEquivalence alike
+alike-equivalence = record {
+  refl = λ b. nat_eq_equiv.refl (lowercase b);
+  symm = λ a b. nat_eq_equiv.symm (lowercase a) (lowercase b);
+  congr = λ a b c. nat_eq_equiv.congr (lowercase a) (lowercase b) (lowercase c);
+}
+
+pub names-equivalence : IsEquivalence (pointwise alike)
+names-equivalence = lists_equiv alike-equivalence
+
+-- a byte that is no letter is like itself alone
+pub other-alone : (a b : ℕ) → letter b ≡ false → alike a b ≡ eqb a b
+other-alone a b e = grind arith
+
+-- a capital letter is like itself and the one 32 further alone
+pub capital-pair : (a b : ℕ) → 65 ≤ a → a ≤ 90 → alike a b ≡ (eqb b a || eqb b (a + 32))
+capital-pair a b l u = grind arith
+
+-- and so is a small one and the one 32 before
+pub small-pair : (a b : ℕ) → 97 ≤ a → a ≤ 122 → alike a b ≡ (eqb b a || eqb (b + 32) a)
+small-pair a b l u = grind arith
+
+-- the same bytes are alike
+pub bytes-alike : (p s : List ℕ) → same p s ≡ true → pointwise alike p s ≡ true
+bytes-alike p s e = rw (same-true p s e) (names-equivalence.refl s)
+
+-- and where no byte sought is a letter, only the same bytes are
+pub bytes_alone : (p s : List ℕ) → ((i : ℕ) → letter (get_or s i 0) ≡ false) → pointwise alike p s ≡ same p s
+unfolding same
+bytes_alone [] [] n = refl
+bytes_alone [] (y ∷ ys) n = refl
+bytes_alone (x ∷ xs) [] n = refl
+bytes_alone (x ∷ xs) (y ∷ ys) n = rw (other-alone x y (n 0), bytes_alone xs ys (λ i. n (suc i)))
+
+-- the parts of texts that are alike, and with two quotes as one
+pub front-alike : (n : ℕ) (xs ys : List ℕ) → pointwise alike xs ys ≡ true → pointwise alike (take n xs) (take n ys) ≡ true
+front-alike zero xs ys e = refl
+front-alike (suc n) [] [] e = refl
+front-alike (suc n) [] (y ∷ ys) e = absurd (false≢true e)
+front-alike (suc n) (x ∷ xs) [] e = absurd (false≢true e)
+front-alike (suc n) (x ∷ xs) (y ∷ ys) e = let q = both (alike x y) (pointwise alike xs ys) e in rw q.0 (front-alike n xs ys q.1)
+
+pub rest-alike : (n : ℕ) (xs ys : List ℕ) → pointwise alike xs ys ≡ true → pointwise alike (drop n xs) (drop n ys) ≡ true
+rest-alike zero xs ys e = e
+rest-alike (suc n) [] [] e = refl
+rest-alike (suc n) [] (y ∷ ys) e = absurd (false≢true e)
+rest-alike (suc n) (x ∷ xs) [] e = absurd (false≢true e)
+rest-alike (suc n) (x ∷ xs) (y ∷ ys) e = rest-alike n xs ys (both (alike x y) (pointwise alike xs ys) e).1
+
+quote-alike : (a b : ℕ) → alike a b ≡ true → eqb a 39 ≡ eqb b 39
+quote-alike a b e = sym (other-alone a 39 refl) ∙ alike-equivalence.congr a b 39 e ∙ other-alone b 39 refl
+
+pub undoubled-alike : (xs ys : List ℕ) → pointwise alike xs ys ≡ true → pointwise alike (undoubled xs) (undoubled ys) ≡ true
+unfolding undoubled
+undoubled-alike [] [] e = refl
+undoubled-alike [] (y ∷ ys) e = absurd (false≢true e)
+undoubled-alike (x ∷ xs) [] e = absurd (false≢true e)
+undoubled-alike (x ∷ []) (y ∷ []) e = e
+undoubled-alike (x ∷ []) (y ∷ z ∷ ys) e = absurd (false≢true (sym (and-false (alike x y)) ∙ e))
+undoubled-alike (x ∷ w ∷ xs) (y ∷ []) e = absurd (false≢true (sym (and-false (alike x y)) ∙ e))
+undoubled-alike (x ∷ w ∷ xs) (y ∷ z ∷ ys) e =
+    let q = both (alike x y) (pointwise alike (w ∷ xs) (z ∷ ys)) e in
+    let r = both (alike w z) (pointwise alike xs ys) q.1 in
+    rw (← quote-alike x y q.0, ← quote-alike w z r.0) (either (eqb x 39 && eqb w 39)
+    (λ t. rw (t, q.0) (undoubled-alike xs ys r.1))
+    (λ t. rw (t, q.0) (undoubled-alike (w ∷ xs) (z ∷ ys) q.1)))

@@ -1,0 +1,90 @@
+-- The first column that passes a test.
+-- Assumes nothing.
+use Prim.Native.Nat.{ℕ, zero, suc, ◌+◌, ◌≤◌, ◌<◌}
+use mathlib.Core.Path.{◌≡◌, refl, sym, ◌∙◌, ap, subst}
+use mathlib.Core.Bool.{Bool, true, false, true≢false}
+use mathlib.Core.List.{List, [], ◌∷◌}
+use mathlib.Core.Logic.{◌⊎◌, inl, inr, ⊎_elim}
+use native.Mathlib.Nat.{add-zero}
+use native.Mathlib.Omega.{arith}
+use lib.Dec.{ltb}
+use lib.ListN.{get_or}
+use borrow.Author.Tests.{ltb-true, ltb-false}
+use Rattle.ascii.specs.declared.Found.{Found}
+use Rattle.ascii.specs.declared.Found.TheVariants.{At, Nothing}
+use Rattle.ascii.proofs.Cases.{either}
+use Rattle.layout.specs.declared.Column.{Column}
+use Rattle.layout.specs.Layout.{noColumn}
+use Rattle.layout.specs.Names.{firstColumn}
+
+pub not_both : (f : Found) (c : ℕ) → f ≡ Nothing → f ≡ At c → ⊥
+not_both f c n a = let z : ◌≡◌ {A = ℕ} 0 1 = cc in omega arith
+
+-- a search for the first column that passes a test, which no column that is not there does
+module _ (test : Column → Bool) (none : test noColumn ≡ false) where
+  abbrev passes : List Column → ℕ → Bool
+  passes cs d = test (get_or cs d noColumn)
+
+  -- it ends at a column that passes and has none in front of it that does, or no column does
+  FirstAt : ℕ → List Column → Type 0
+  FirstAt i cs = (d : ℕ) × (firstColumn test i cs ≡ At (i + d)) × (passes cs d ≡ true) × ((e : ℕ) → e < d → passes cs e ≡ false)
+
+  NoneAt : ℕ → List Column → Type 0
+  NoneAt i cs = (firstColumn test i cs ≡ Nothing) × ((e : ℕ) → passes cs e ≡ false)
+
+  in-front : (x : Column) (xs : List Column) (d : ℕ) → test x ≡ false → ((e : ℕ) → e < d → passes xs e ≡ false)
+      → (e : ℕ) → e < suc d → passes (x ∷ xs) e ≡ false
+  in-front x xs d t h zero p = t
+  in-front x xs d t h (suc e) p = h e (omega (arith, p))
+
+  nowhere : (x : Column) (xs : List Column) → test x ≡ false → ((e : ℕ) → passes xs e ≡ false) → (e : ℕ) → passes (x ∷ xs) e ≡ false
+  nowhere x xs t h zero = t
+  nowhere x xs t h (suc e) = h e
+
+  search-ends : (i : ℕ) (cs : List Column) → FirstAt i cs ⊎ NoneAt i cs
+  unfolding firstColumn FirstAt NoneAt
+  search-ends i [] = inr (refl, λ e. none)
+  search-ends i (x ∷ xs) =
+      either (test x)
+      (λ t. inl (0, rw (t, add-zero i) refl, t, λ e p. absurd (omega (arith, p))))
+      (λ t. ⊎_elim
+      (λ q. let k : suc i + q.0 ≡ i + suc q.0 = omega arith in inl (suc q.0, rw t (q.1 ∙ ap At k), q.2, in-front x xs q.0 t q.3))
+      (λ q. inr (rw t q.0, nowhere x xs t q.1))
+      (search-ends (suc i) xs))
+
+  -- the same from the first column on
+  from_front : (cs : List Column) → FirstAt 0 cs → (d : ℕ) × (firstColumn test 0 cs ≡ At d) × (passes cs d ≡ true) × ((e : ℕ) → e < d → passes cs e ≡ false)
+  unfolding FirstAt
+  from_front cs q = let z : 0 + q.0 ≡ q.0 = omega arith in (q.0, q.1 ∙ ap At z, q.2, q.3)
+
+  pub first-passes : (cs : List Column) (c : ℕ) → firstColumn test 0 cs ≡ At c → (passes cs c ≡ true) × ((d : ℕ) → d < c → passes cs d ≡ false)
+  unfolding NoneAt
+  first-passes cs c e =
+      ⊎_elim
+      (λ f. let q = from_front cs f in let g : At q.0 ≡ At c = sym q.1 ∙ e in let k : q.0 ≡ c = cc in
+      (subst (λ d. passes cs d ≡ true) k q.2, λ d p. q.3 d (omega (arith, k, p))))
+      (λ q. absurd (not_both _ c q.0 e))
+      (search-ends 0 cs)
+
+  pub first-none : (cs : List Column) → firstColumn test 0 cs ≡ Nothing → (c : ℕ) → passes cs c ≡ false
+  unfolding NoneAt
+  first-none cs e =
+      ⊎_elim
+      (λ f. let q = from_front cs f in absurd (not_both _ q.0 e q.1))
+      (λ q. q.1)
+      (search-ends 0 cs)
+
+  pub first-upto : (cs : List Column) (c : ℕ) → passes cs c ≡ true → (d : ℕ) × (firstColumn test 0 cs ≡ At d) × (d ≤ c) × (passes cs d ≡ true)
+  unfolding NoneAt
+  first-upto cs c e =
+      ⊎_elim
+      (λ f. let q = from_front cs f in
+      (q.0, q.1, either (ltb c q.0) (λ t. absurd (true≢false (sym e ∙ q.3 c (ltb-true c q.0 t)))) (λ t. ltb-false c q.0 t), q.2))
+      (λ q. absurd (true≢false (sym e ∙ q.1 c)))
+      (search-ends 0 cs)
+
+-- two tests that say the same of every column find the same
+pub first-same : (f g : Column → Bool) → ((x : Column) → f x ≡ g x) → (i : ℕ) (cs : List Column) → firstColumn f i cs ≡ firstColumn g i cs
+unfolding firstColumn
+first-same f g h i [] = refl
+first-same f g h i (x ∷ xs) = rw (h x, first-same f g h (suc i) xs)
