@@ -1,6 +1,7 @@
 -- The name of a column in the header that its layout was made from is the text of TTYPEn: that header is never too short for it.
 -- Assumes nothing.
-use mathlib.Core.Path.{◌≡◌, refl, sym, ◌∙◌, ap}
+use mathlib.Core.Path.{◌≡◌, refl, sym, ◌∙◌, ap, subst}
+use mathlib.Core.Bool.{true, ◌&&◌}
 use mathlib.Core.List.{List}
 use Prim.Native.Nat.{ℕ, zero, suc, ◌+◌, ◌-◌, ◌≤◌, ◌<◌}
 use native.Mathlib.Nat.{add-zero, add-suc, suc-add, le_of_suc-le-suc, not-suc-le-zero}
@@ -12,9 +13,13 @@ use Rattle.card.specs.declared.Value.TheVariants.{Integer, String, Invalid}
 use Rattle.card.proofs.Inside.{value-inside}
 use Rattle.ascii.specs.declared.Found.{Found}
 use Rattle.ascii.specs.declared.Found.TheVariants.{At, Nothing}
-use Rattle.layout.specs.Layout.{noColumn, columnBytes}
-use Rattle.layout.specs.Names.{partOf, columnName}
-use Rattle.layout.proofs.Named.{name-at}
+use Rattle.layout.specs.Layout.{noColumn, columnBytes, columnsOf}
+use Rattle.layout.specs.declared.Name.{Name}
+use Rattle.layout.specs.declared.Name.TheVariants.{Stretch}
+use Rattle.layout.specs.declared.Column.{Column}
+use Rattle.layout.specs.Names.{inHeader, stretchOf, partOf, columnName, sameName, findName}
+use Rattle.layout.proofs.Named.{name-at, column-at}
+use Rattle.layout.proofs.EitherCase.{found-upto}
 use Rattle.bintable.specs.Checks.{textIn, valueAt, sizeFor, ttypeOf}
 use Rattle.bintable.specs.Entry.{nameIn, columnsFrom, layoutOf}
 use Rattle.bintable.proofs.Filled.{columnOf, columnsTo, columns-length}
@@ -48,3 +53,19 @@ module _ (h : List ℕ) where
 
   pub own-name : (c : ℕ) → c < (layoutOf h).tfields → columnName h (layoutOf h) c ≡ textIn h (valueAt h (ttypeOf h (c + 1)))
   own-name c p = sym (name-at h (layoutOf h) c p) ∙ ap (partOf h) (listed c p) ∙ record-text (ttypeOf h (c + 1))
+
+  reached : (r : Found) (a n : ℕ) → valueAt h r ≡ String a n → a + n ≤ length h
+  reached (At k) a n e = value-inside a n h k e
+  reached Nothing a n e = absurd (let w : ◌≡◌ {A = ℕ} 0 1 = cc in omega arith)
+
+  -- TTYPEn is the string of n bytes from byte a on
+  module _ (c a n : ℕ) (p : c < (layoutOf h).tfields) (v : valueAt h (ttypeOf h (c + 1)) ≡ String a n) where
+    own-stretch : (get_or (columnsOf (layoutOf h)) c noColumn).name ≡ Stretch a n
+    own-stretch = ap (λ (x : Column). x.name) (column-at (layoutOf h) c p) ∙ listed c p ∙ ap nameIn v
+
+    -- if that is alike to the name sought, its column is found or one in front of it is
+    pub own-found : (s : List ℕ) → sameName (textIn h (String a n)) s ≡ true → (d : ℕ) × (findName h (layoutOf h) s ≡ At d) × (d ≤ c)
+    own-found s e =
+        let i = le-leb (a + n) (length h) (reached (ttypeOf h (c + 1)) a n v) in
+        let has = subst (λ (m : Name). (inHeader h m && sameName (stretchOf h m) s) ≡ true) (sym own-stretch) (rw i e) in
+        let q = found-upto h (layoutOf h) s c has in (q.0, q.1, q.2)
