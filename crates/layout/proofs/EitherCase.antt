@@ -10,7 +10,6 @@ use lib.ListN.{get_or, drop}
 use lib.Pointwise.{pointwise, pointwise_long}
 use borrow.Author.Tests.{ltb-true, ltb-false}
 use Rattle.ascii.specs.Text.{same}
-use Rattle.ascii.specs.declared.Found.{Found}
 use Rattle.ascii.specs.declared.Found.TheVariants.{At, Nothing}
 use Rattle.ascii.proofs.Cases.{either, both}
 use Rattle.layout.specs.declared.Column.{Column}
@@ -21,7 +20,7 @@ use Rattle.layout.specs.Layout.{noColumn, columnsOf}
 use Rattle.layout.specs.Names.{undoubled, columnName, stretchOf, inHeader, alike, sameName, hasName, findName}
 use Rattle.layout.specs.EitherCase.{letter, named, hasBytes, findBytes}
 use Rattle.layout.proofs.Named.{part-in-header, name-at, column-at, found-inside}
-use Rattle.layout.proofs.First.{not_both, first-passes, first-none, first-upto, first-same}
+use Rattle.layout.proofs.First.{not_both, nothing-else, first-passes, first-none, first-upto, first-same}
 use Rattle.layout.proofs.Alike.{names-equivalence, bytes-alike, bytes_alone, front-alike, rest-alike, undoubled-alike}
 
 module _ (h : List ℕ) (l : BinTable) (s : List ℕ) where
@@ -30,10 +29,13 @@ module _ (h : List ℕ) (l : BinTable) (s : List ℕ) where
   unfolding findName
   found-first c = first-passes (hasName h s) refl (columnsOf l) c
 
-  -- nothing is found only where no column has the name
+  -- nothing is found just where no column has the name
   pub found-nothing : findName h l s ≡ Nothing → (c : ℕ) → named h l s c ≡ false
   unfolding findName
   found-nothing = first-none (hasName h s) refl (columnsOf l)
+
+  pub nothing-found : ((c : ℕ) → named h l s c ≡ false) → findName h l s ≡ Nothing
+  nothing-found n = nothing-else (findName h l s) (λ c e. true≢false (sym (found-first c e).0 ∙ n c))
 
   -- if a column has the name, it is found or one in front of it is
   pub found-upto : (c : ℕ) → named h l s c ≡ true → (d : ℕ) × (findName h l s ≡ At d) × (d ≤ c) × (named h l s d ≡ true)
@@ -72,11 +74,7 @@ module _ (h : List ℕ) (l : BinTable) (s : List ℕ) where
 
   -- where no column has the name in either case, none has its bytes
   pub nothing-by-bytes : findName h l s ≡ Nothing → findBytes h l s ≡ Nothing
-  nothing-by-bytes e = cases (findBytes h l s) refl
-    where
-      cases : (f : Found) → findBytes h l s ≡ f → f ≡ Nothing
-      cases Nothing q = refl
-      cases (At c) q = let d = found-by-bytes c q in absurd (not_both (findName h l s) d.0 e d.1)
+  nothing-by-bytes n = nothing-else (findBytes h l s) (λ c e. let d = found-by-bytes c e in not_both (findName h l s) d.0 n d.1)
 
   -- a name without letters is found as by its bytes
   pub found-letterless : ((i : ℕ) → letter (get_or s i 0) ≡ false) → findName h l s ≡ findBytes h l s

@@ -20,6 +20,10 @@ use Rattle.layout.specs.Names.{firstColumn}
 pub not_both : (f : Found) (c : ℕ) → f ≡ Nothing → f ≡ At c → ⊥
 not_both f c n a = let z : ◌≡◌ {A = ℕ} 0 1 = cc in omega arith
 
+pub nothing-else : (f : Found) → ((c : ℕ) → f ≡ At c → ⊥) → f ≡ Nothing
+nothing-else Nothing n = refl
+nothing-else (At c) n = absurd (n c refl)
+
 -- a search for the first column that passes a test, which no column that is not there does
 module _ (test : Column → Bool) (none : test noColumn ≡ false) where
   abbrev passes : List Column → ℕ → Bool
