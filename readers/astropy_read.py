@@ -1,7 +1,8 @@
 """Prints what astropy reads of the first extension of each file, in the form of the port's program `cells`, after a
 line `file` with its name. The names come on the input, one on a line. An error of astropy is a line `error`, in place
 of what would follow. Some tables it reads only if a copy is changed; then there is a line `note` for each change,
-before the others. With the argument `plain` nothing is changed."""
+before the others. Behind them are the columns of the names in PATH.names, one on a line. With the argument `plain`
+nothing is changed."""
 import io
 import re
 import sys
@@ -11,6 +12,7 @@ sys.dont_write_bytecode = True
 
 import numpy
 from astropy.io import fits
+from astropy.io.fits.column import _get_index
 
 BLOCK, RECORD = 2880, 80
 END = b'END'.ljust(RECORD)
@@ -78,7 +80,8 @@ def readable(records, header, forms, names):
 def read(file, plain):
     """The table, the forms and names of the file itself, and what was changed in the copy that was read."""
     records, data = records_of(file)
-    header = fits.Header.fromstring(b''.join(records).decode('latin-1'))
+    # a byte above 127 comes as ?, as when it opens a file
+    header = fits.Header.fromstring(re.sub(rb'[\x80-\xff]', b'?', b''.join(records)).decode('ascii'))
     numbers = range(1, header['TFIELDS'] + 1)
     names = [str(header.get('TTYPE%d' % n, '')) for n in numbers]
     forms = [header['TFORM%d' % n] for n in numbers]
@@ -149,7 +152,15 @@ def field_texts(letters, field, stored):
     return number_texts(letters, field)
 
 
-def listing(file, plain):
+def found(names, sought):
+    """The column of a name, as `table.data.field` and `table.columns` find it."""
+    try:
+        return '%d' % _get_index(names, sought)
+    except KeyError as error:
+        return 'ambiguous' if 'Ambiguous' in str(error) else 'none'
+
+
+def listing(file, plain, sought):
     table, forms, names, notes = read(file, plain)
     data = table.data
     rows, width, places = len(data), data.dtype.itemsize, data.dtype.fields or {}
@@ -175,7 +186,10 @@ def listing(file, plain):
             texts = field_texts(letters, fields[row], stored[row, start:end]) if fields is not None else []
             lines += ['cell %d %d %d %s' % (row, n, idx, text) for idx, text in enumerate(texts)]
             cells += len(texts)
-    return ['note ' + note for note in notes] + lines + ['end %d' % cells]
+    # in a copy there may be other names
+    names = table.columns.names if plain else names
+    lines += ['end %d' % cells] + ['find %d %s' % (k, found(names, name)) for k, name in enumerate(sought)]
+    return ['note ' + note for note in notes] + lines
 
 
 def main():
@@ -184,8 +198,10 @@ def main():
         print('file ' + path)
         with open(path, 'rb') as file:
             content = file.read()
+        with open(path + '.names', encoding='latin-1', newline='\n') as file:
+            sought = file.read().split('\n')[:-1]
         try:
-            for line in listing(content, 'plain' in sys.argv):
+            for line in listing(content, 'plain' in sys.argv, sought):
                 print(line)
         except Exception as error:
             print('error %s: %s' % (type(error).__name__, str(error).replace('\n', ' ')))

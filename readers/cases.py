@@ -12,9 +12,11 @@ import numpy
 from astropy.io import fits
 
 from compare import BLOCK, PRIMARY, READERS, cells_of, read_by
+from generate import named_table
 from header_cases import keyword, record
 from layout_cases import changed, inserted, without
 from listing import column_records, fixed, required, whole
+from names import found_by_port
 
 
 def table(forms, main, heap='', names=None, rows=1, **others):
@@ -100,12 +102,32 @@ CASES = [
     ('no data', of_records(changed())[:BLOCK]),
 ]
 
+# The names of columns, and the one that is sought.
+SOUGHT = [
+    ([b'Weight', b'WEIGHT'], b'weight'), ([b'Weight', b'WEIGHT'], b'WEIGHT'), ([b'A', b'A'], b'a'),
+    ([b'AB'], b'a*'), ([b'AB'], b'a?'), ([b'A1', b'A2'], b'a#'), ([b'A', b'B'], b'2'), ([b'AB'], b'ab '),
+    ([None], b''), ([None, b''], b''), ([b"A'/B"], b"a'/b"), ([b"A'/B"], b"a'"),
+    ([b'\xc9'], b'\xc9'), ([b'\xc9'], b'\xe9'), ([b'@'], b'`'),
+]
+
 
 def shown(lines):
     """The lines in one, of many the first and the last; of an error of astropy its kind alone."""
     if len(lines) > MOST_LINES:
         lines = lines[:5] + ['..'] + lines[-1:]
     return '; '.join(line.split(':')[0] if line.startswith('error ') else line for line in lines)
+
+
+def print_sought(work):
+    """What each finds, without what it prints of the table itself."""
+    tables, sought = [named_table(names) for names, _ in SOUGHT], [[name] for _, name in SOUGHT]
+    read = {'layout_cases': found_by_port(tables, sought, work)}
+    for reader in READERS:
+        read[reader] = read_by(reader, [PRIMARY + content for content in tables], work, 'plain', sought=sought)
+    for k, pair in enumerate(SOUGHT):
+        print('columns %s; sought: %s' % pair)
+        for reader, said in read.items():
+            print('  %s: %s' % (reader, shown([line for line in said[k] if line.startswith(('find ', 'error '))])))
 
 
 def main(work):
@@ -117,6 +139,7 @@ def main(work):
         print(name)
         for reader, said in read.items():
             print('  %s: %s' % (reader, shown(said[k])))
+    print_sought(work)
 
 
 if __name__ == '__main__':

@@ -1,6 +1,7 @@
 /* Prints what cfitsio reads of the first extension of each file, in the form of the port's program `cells`, after a
    line `file` with its name. The names come on the input, one on a line. An error of cfitsio is a line `error` with
-   its number in place of what would follow, or, if it is one of a field or array, a cell `(error NUMBER)`. */
+   its number in place of what would follow, or, if it is one of a field or array, a cell `(error NUMBER)`. Behind them
+   are the columns of the names that are sought. */
 #include "cfitsio_values.h"
 #include <fitsio2.h>
 #include <stdlib.h>
@@ -126,6 +127,27 @@ static LONGLONG print_field(fitsfile *table, int n, const column *from, LONGLONG
     return items;
 }
 
+/* Seeks the names in the file NAME.names, one on a line. COL_NOT_UNIQUE comes with a column, other errors do not. */
+static void print_found(fitsfile *table, const char *name) {
+    char path[5000], sought[4096];
+    snprintf(path, sizeof path, "%s.names", name);
+    FILE *names = fopen(path, "r");
+    for (int k = 0; names && fgets(sought, sizeof sought, names); k++) {
+        int column = 0, status = 0;
+        sought[strcspn(sought, "\n")] = 0;
+        fits_get_colnum(table, CASEINSEN, sought, &column, &status);
+        if (status == COL_NOT_FOUND)
+            printf("find %d none\n", k);
+        else if (status)
+            printf("find %d %d %d\n", k, column - 1, status);
+        else
+            printf("find %d %d\n", k, column - 1);
+        fits_clear_errmsg();
+    }
+    if (names)
+        fclose(names);
+}
+
 static void print_table(const char *name, int *status) {
     fitsfile *table = NULL;
     int columns = 0, kind = 0;
@@ -144,6 +166,8 @@ static void print_table(const char *name, int *status) {
             cells += print_field(table, n, known + n, row, status);
     if (!*status)
         printf("end %lld\n", cells);
+    if (!*status)
+        print_found(table, name);
     free(known);
     int closed = 0;
     if (table)

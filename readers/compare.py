@@ -8,6 +8,7 @@ import collections
 import glob
 import itertools
 import os
+import random
 import re
 import subprocess
 import sys
@@ -18,12 +19,14 @@ ROOT = os.path.dirname(HERE)
 sys.path.insert(0, os.path.join(ROOT, 'tests'))
 
 import generate
+import names
 import samples
 from header_cases import END, USED, record, records_of
 from layout_cases import layout_of
 from listing import MOST, cells_text, fixed, parted
 
 SEED = 1
+NAMED = 1000
 WRITTEN = 400
 BLOCK = 2880
 PRIMARY = b''.join([record('SIMPLE  =                    T'), fixed('BITPIX', 8), fixed('NAXIS', 0),
@@ -78,14 +81,16 @@ def cells_of(table, work):
     return subprocess.run([CELLS], cwd=work, capture_output=True, check=True).stdout.decode('latin-1').split('\n')[:-1]
 
 
-def read_by(reader, files, work, *words):
-    """What a reader prints of each file."""
+def read_by(reader, files, work, *words, sought=None):
+    """What a reader prints of each file, and of the names sought in it."""
     paths = [os.path.join(work, '%d.fits' % k) for k in range(len(files))]
-    for path, content in zip(paths, files):
+    for path, content, wanted in zip(paths, files, sought or [[]] * len(files)):
         with open(path, 'wb') as file:
             file.write(content)
-    names = ''.join(path + '\n' for path in paths).encode()
-    said = subprocess.run(READERS[reader] + list(words), input=names, stdout=subprocess.PIPE, check=True).stdout
+        with open(path + '.names', 'wb') as file:
+            file.write(b''.join(name + b'\n' for name in wanted))
+    listed = ''.join(path + '\n' for path in paths).encode()
+    said = subprocess.run(READERS[reader] + list(words), input=listed, stdout=subprocess.PIPE, check=True).stdout
     parts = re.split('^file .*\n', said.decode('latin-1'), flags=re.MULTILINE)[1:]
     assert len(parts) == len(files)
     return [part.split('\n')[:-1] for part in parts]
@@ -158,32 +163,38 @@ def first_pair(lines, others):
     return next((pair for pair in pairs if pair[0] != pair[1]), None)
 
 
-def compare_with(reader, tables, ours, work, totals):
+def compare_with(reader, tables, ours, sought, found, work, totals):
     before = totals.differences
     given = [readable(reader, table) for table in tables.values()]
-    read = read_by(reader, [whole_file(table) for table, _ in given], work)
+    read = read_by(reader, [whole_file(table) for table, _ in given], work, sought=[sought[name] for name in tables])
     for (name, table), (_, changes), lines in zip(tables.items(), given, read):
         notes = [line for line in lines if line.startswith('note ')]
-        pair, met = difference(reader, forms_of(table), ours[name], lines[len(notes):])
+        said = [line for line in lines if not line.startswith(('note ', 'find '))]
+        pair, met = difference(reader, forms_of(table), ours[name], said)
         met.update(changes + ['%s: tables read with a change, %s' % (reader, note[5:]) for note in notes])
-        totals.add(reader, name, pair, met)
-    print('  %s: %d tables, %d cells compared, %d tables differ' % (
-        reader, len(tables), sum(cells_in(ours[name]) for name in tables), totals.differences - before))
+        other, more = names.difference(reader, table, sought[name], found[name], lines)
+        totals.add(reader, name, pair or other, met + more)
+    print('  %s: %d tables, %d cells and %d names sought compared, %d tables differ' % (
+        reader, len(tables), sum(cells_in(ours[name]) for name in tables), sum(len(sought[name]) for name in tables),
+        totals.differences - before))
 
 
 def compare(title, tables, work, totals):
     """Tables by name. What `cells` prints of each is returned."""
     ours = {name: cells_of(table, work) for name, table in tables.items()}
     print('%s: %d tables, %d cells' % (title, len(tables), sum(cells_in(lines) for lines in ours.values())))
+    rng = random.Random(SEED)
+    sought = {name: names.sought_in(rng, table) for name, table in tables.items()}
+    found = dict(zip(tables, names.found_by_port(list(tables.values()), list(sought.values()), work)))
     sound = dict(tables)
     for name, lines in ours.items():
         if any(line.startswith('refused 13 ') for line in lines):
             # the others go on there, so the refusal is held to what tests/listing.py says of the bytes
             said = cells_text(sound.pop(name)).decode('latin-1').split('\n')[:-1]
             totals.add('tests/listing.py', name, first_pair(lines, said), collections.Counter())
-    compare_with('cfitsio', tables, ours, work, totals)
+    compare_with('cfitsio', tables, ours, sought, found, work, totals)
     # astropy reads a column at once, and so does not get as far as a bad descriptor
-    compare_with('astropy', sound, ours, work, totals)
+    compare_with('astropy', sound, ours, sought, found, work, totals)
     return ours
 
 
@@ -232,6 +243,8 @@ def main(work, count, folder=None):
     totals = Totals()
     made = {'table %d' % k: table for k, table in enumerate(generate.tables(SEED, int(count)))}
     compare('random tables', made, work, totals)
+    named = {'table of names %d' % k: table for k, table in enumerate(generate.named_tables(SEED, NAMED))}
+    compare('tables of names', named, work, totals)
     if folder:
         cases = {}
         for path in sorted(glob.glob(os.path.join(folder, '*', 'table.fits'))):

@@ -1,5 +1,6 @@
 """Wrong answers, each of which must be noticed. The other readers are given a copy of a table in which one thing is
-changed, so what they print is what a reader with that fault prints; `cells` is given the table itself.
+changed, so what they print is what a reader with that fault prints; `cells` is given the table itself. For names it is
+the port's answers that are made wrong.
 
     controls.py WORK
 """
@@ -8,6 +9,7 @@ import sys
 
 from compare import READERS, SEED, cells_of, difference, forms_of, parted, read_by, readable, whole_file
 import generate
+import names
 from layout_cases import WIDTH, layout_of
 
 TABLES = 300
@@ -111,8 +113,37 @@ FAULTS = {'one bit of a float': bit_of_float, 'one bit of B, A or X': bit_of_byt
           'the row before repeated': row_repeated}
 
 
-def main(work):
+# The columns of a name by wrong rules.
+RULES = {
+    'names by their bytes': lambda named, sought: [n for n, name in enumerate(named) if name == sought],
+    '@ and ` alike': lambda named, sought: names.columns_of(
+        [name and name.replace(b'`', b'@') for name in named], sought.replace(b'`', b'@')),
+    'the last of a name': lambda named, sought: names.columns_of(named, sought)[::-1],
+}
+
+
+def names_missed(work):
+    """How many tables with a wrong answer neither cfitsio nor astropy differs from."""
     rng, missed = random.Random(SEED), 0
+    tables = generate.named_tables(SEED, TABLES)
+    sought = [names.sought_in(rng, table) for table in tables]
+    ours = names.found_by_port(tables, sought, work)
+    read = {reader: read_by(reader, [whole_file(readable(reader, table)[0]) for table in tables], work, sought=sought)
+            for reader in READERS}
+    for title, rule in RULES.items():
+        wrong = [['find %d %s' % (j, names.answer(rule(names.names_of(table), name))) for j, name in enumerate(of)]
+                 for table, of in zip(tables, sought)]
+        made = [k for k, lines in enumerate(wrong) if lines != ours[k]]
+        noticed = {reader: {k for k in made if names.difference(reader, tables[k], sought[k], wrong[k], said[k])[0]}
+                   for reader, said in read.items()}
+        on = ['%s on %d' % (reader, len(of)) for reader, of in noticed.items()]
+        print('control, %s: %d tables, noticed by %s' % (title, len(made), ', by '.join(on)))
+        missed += len(made) - len(set.union(*noticed.values())) + (len(made) == 0)
+    return missed
+
+
+def main(work):
+    rng, missed = random.Random(SEED), names_missed(work)
     tables = generate.tables(SEED, TABLES)
     ours = [cells_of(table, work) for table in tables]
     for name, fault in FAULTS.items():

@@ -6,8 +6,9 @@ import random
 import struct
 
 from header_cases import record
-from layout_cases import WIDTH
+from layout_cases import WIDTH, doubled, table
 from listing import MOST, column_records, fixed, required, whole
+from names import one_flipped
 
 LETTERS = 'LXBIJKAEDCM'
 PRINTED = bytes(range(32, 127))
@@ -17,6 +18,8 @@ SPECIAL = ['00', 'ff', '80', '7f', '0000', 'ffff', '8000', '7fff', '00000000', '
            '7f800000', 'ff800000', '7f800001', 'ffc12345', '00000001', '0000000000000000', '8000000000000000',
            'ffffffffffffffff', '7fffffffffffffff', '7ff0000000000000', 'fff0000000000000', '7ff0000000000001',
            'fff8123456789abc', '0000000000000001']
+# For names: letters in both cases, characters 32 apart that are no letters, and some more.
+ALIKE = b"AAaaBbZz@`[{^~12' "
 FLOAT_PART = {'E': 4, 'C': 4, 'D': 8, 'M': 8}
 
 # columns, rows, count of a field, items of an array
@@ -138,4 +141,30 @@ def tables(seed, count):
         table = try_table(rng)
         if len(table) <= MOST:
             made.append(table)
+    return made
+
+
+def random_name(rng, others):
+    """A name, often that of another column or nearly so; None for none."""
+    made = bytes(rng.choice(ALIKE) for _ in range(1 + rng.randrange(6)))
+    name = rng.choice([None, b''] + 4 * [made] + 3 * [other for other in others if other])
+    if name and rng.randrange(3):
+        name = rng.choice([name.swapcase(), one_flipped(rng, name), name[:-1]])
+    return name
+
+
+def named_table(names):
+    """One row of bytes."""
+    written = [name if name is None else doubled(name) for name in names]
+    return whole(table(['1B'] * len(names), len(names), names=written), bytes(range(len(names))))
+
+
+def named_tables(seed, count):
+    """Small tables with names that are alike but for the case, or but for one byte that is no letter."""
+    rng, made = random.Random(seed), []
+    for _ in range(count):
+        names = []
+        for _ in range(1 + rng.randrange(8)):
+            names.append(random_name(rng, names))
+        made.append(named_table(names))
     return made
