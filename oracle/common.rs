@@ -17,6 +17,11 @@ impl Random {
         Random(seed.wrapping_mul(0x9E37_79B9_7F4A_7C15))
     }
 
+    /// A second generator of a seed.
+    pub fn second(seed: u64) -> Random {
+        Random::new(seed.rotate_left(32))
+    }
+
     pub fn draw(&mut self) -> u64 {
         self.0 ^= self.0 << 13;
         self.0 ^= self.0 >> 7;

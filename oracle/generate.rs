@@ -2,7 +2,7 @@
 //! the choice of columns and the heap setting.
 
 use crate::common::{descriptor, item_width, number, Kind, Random, BLOCK, LETTERS, TRUE};
-use crate::records::{bytes, integer, other, quoted, shuffle, string, Format};
+use crate::records::{bytes, integer, other, quoted, rename, shuffle, string, Format};
 use std::ops::Range;
 
 /// The largest of each that a table may have; `file` is header and data area together.
@@ -152,6 +152,13 @@ impl Table {
                 return table;
             }
         }
+    }
+
+    /// The same table with names of either case, many of them alike, which another generator makes.
+    pub fn named(random: &mut Random, names: &mut Random, sizes: &Sizes) -> Table {
+        let mut table = Table::random(random, sizes);
+        rename(names, &mut table.header);
+        table
     }
 
     fn try_random(random: &mut Random, sizes: &Sizes) -> Table {

@@ -5,10 +5,11 @@
 //! The table has a row of one `1I` with the number 7 and is otherwise as the records say. A record stands in
 //! place of the one of its name, or behind the others if there is none; with `+` in front it is behind them
 //! in any case, and `-NAME` takes one out. `data N` is the length of the data, zeros behind the 7; `blocks N`
-//! that of the header, with blank records. `\xNN` is a byte in hexadecimal, U+NNNN another character.
+//! that of the header, with blank records. `\xNN` is a byte in hexadecimal, U+NNNN another character. With
+//! `find NAME` as the last word the answer is the column that has the name, as `layout_cases` prints it.
 //!
-//! `headers` prints what the Rust answers; `headers PROGRAMS FOLDER` what the port's `cells` does, run in
-//! FOLDER.
+//! `headers` prints what the Rust answers; `headers PROGRAMS FOLDER` what the port's `cells` or `layout_cases`
+//! does, run in FOLDER.
 
 #[allow(dead_code)]
 mod common;
@@ -16,6 +17,8 @@ mod common;
 mod generate;
 #[allow(dead_code)]
 mod kinds;
+#[allow(dead_code)]
+mod names;
 #[allow(dead_code)]
 mod reader;
 #[allow(dead_code)]
@@ -121,6 +124,9 @@ B.17 | data 1
 B.18 | TTYPE1  = 'COMPRESSED_DATA' ; ZCMPTYPE= 'GZIP_1' ; ZBITPIX = 8 ; ZNAXIS  = 1 ; ZNAXIS1 = 1
 B.19 | ZNAXIS  = 4611686018427387904
 B.20 | TTYPE1  = 'A''B'
+B.21a | TTYPE1  = 'Weight' ; find WEIGHT
+B.21b | TTYPE1  = 'Weight' ; find Weight
+B.22 | TFIELDS = 2 ; NAXIS1  = 4 ; TFORM2  = '1I' ; TTYPE1  = 'weight' ; TTYPE2  = 'WEIGHT' ; data 4 ; find WEIGHT
 B.na | -BITPIX
 B.nb | BITPIX  = '8'
 B.nc | BITPIX  = 16
@@ -134,6 +140,8 @@ B.nj | NAXIS1  = 3
 B.nk | TFIELDS = 2 ; TFORM1  = '0PE' ; TFORM2  = '1I'
 B.nl | TFORM1  = '0QD' ; NAXIS1  = 0 ; data 0
 B.nm | TFORM1  = '2PE' ; NAXIS1  = 16 ; data 16
+B.nn | TTYPE1  = '`' ; find @
+B.no | TTYPE1  = '{' ; find [
 ";
 
 /// Longer lists are cut to this many cells.
@@ -191,13 +199,37 @@ fn file_of(words: &str) -> (Vec<u8>, usize) {
     (file, header)
 }
 
-/// The Rust's answer as one line. The crate's own loop over the records is not among the sources.
-fn rust(file: &[u8], header: usize) -> String {
-    let answer = catch_unwind(AssertUnwindSafe(|| match parse_header(&file[..header]) {
-        Ok(_) => reader::listing(reader::open(file, header, None, true), SHOWN),
-        Err(_) => "error\n".to_string(),
+/// The Rust's answer. The crate's own loop over the records is not among the sources.
+fn rust(file: &[u8], header: usize, sought: Option<&str>) -> String {
+    let answer = catch_unwind(AssertUnwindSafe(|| {
+        if parse_header(&file[..header]).is_err() {
+            return "error\n".to_string();
+        }
+        let open = reader::open(file, header, None, true);
+        match sought {
+            Some(name) => names::find_line(0, open.ctx.find_field_by_ttype(name)),
+            None => reader::listing(open, SHOWN),
+        }
     }));
     answer.unwrap_or_else(|_| "panic\n".to_string())
+}
+
+/// The port's answer, by the programs in the first folder, run in the second.
+fn port(file: &[u8], header: usize, sought: Option<&str>, folders: [&Path; 2]) -> Vec<u8> {
+    let [programs, folder] = folders;
+    let run = |program, name, bytes| {
+        fs::write(folder.join(name), bytes).expect("a file that can be written");
+        kinds::printed(programs, program, folder)
+    };
+    let Some(name) = sought else {
+        return run("cells", "table.fits", file);
+    };
+    let (header, area) = file.split_at(header);
+    let case = names::case(header, area.len(), &[name.to_string()]);
+    let printed = run("layout_cases", "cases.bin", &case);
+    let mut lines = printed.split(|byte| *byte == b'\n');
+    let found = lines.find(|line| line.starts_with(b"find 0 full"));
+    found.unwrap_or(b"no line").to_vec()
 }
 
 /// A byte of the port's text, or a character of the Rust's; what is no printed ASCII by its number.
@@ -219,22 +251,23 @@ fn main() {
             println!("{line}");
             continue;
         };
+        let (records, sought) = match records.split_once(" ; find ") {
+            Some((records, name)) => (records, Some(name)),
+            None => (records, None),
+        };
         let (file, header) = file_of(records);
-        let answer = match &words[..] {
+        let answer: String = match &words[..] {
             [programs, folder] => {
                 fs::create_dir_all(folder).expect("a folder that can be made");
-                fs::write(Path::new(folder).join("table.fits"), &file)
-                    .expect("a file that can be written");
-                let printed = kinds::printed(Path::new(programs), "cells", Path::new(folder));
-                printed
-                    .into_iter()
-                    .map(|byte| shown(u32::from(byte)))
-                    .collect()
+                let folders = [Path::new(programs), Path::new(folder)];
+                let printed = port(&file, header, sought, folders);
+                let shown = printed.into_iter().map(|byte| shown(u32::from(byte)));
+                shown.collect()
             }
-            _ => rust(&file, header)
+            _ => rust(&file, header, sought)
                 .chars()
                 .map(|c| shown(u32::from(c)))
-                .collect::<String>(),
+                .collect(),
         };
         println!("{line} => {}", answer.trim_end_matches("; "));
     }

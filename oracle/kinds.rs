@@ -105,8 +105,14 @@ pub struct Case {
 }
 
 impl Case {
-    pub fn random(random: &mut Random, sizes: &Sizes, lengths: &Lengths) -> Case {
-        let table = Table::random(random, sizes);
+    /// A table with names by a generator of their own.
+    pub fn random(
+        random: &mut Random,
+        names: &mut Random,
+        sizes: &Sizes,
+        lengths: &Lengths,
+    ) -> Case {
+        let table = Table::named(random, names, sizes);
         Case::of(random, table, lengths)
     }
 

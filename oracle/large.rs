@@ -545,11 +545,11 @@ fn compare_large(
 }
 
 fn run(seed: u64, tables: usize) -> Result<(), String> {
-    let mut random = Random::new(seed);
+    let (mut random, mut names) = (Random::new(seed), Random::second(seed));
     let mut totals = Totals::default();
     for number in 0..tables {
         let (sizes, lengths) = &KINDS[number % KINDS.len()];
-        let case = Case::random(&mut random, sizes, lengths);
+        let case = Case::random(&mut random, &mut names, sizes, lengths);
         compare(&case, &mut random, &mut totals)
             .map_err(|text| format!("table {number}: {text}"))?;
     }

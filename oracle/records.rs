@@ -6,6 +6,10 @@ use crate::common::{Random, BLOCK};
 
 const RECORD: usize = 80;
 const NAME: &[u8] = b"ABCDEFGHIJKLMNOPQRSTUVWXYZ0123456789-_";
+/// The bytes beside the letters.
+const BESIDE: &[u8] = b"@[\\]^_`{|}~";
+/// Bit 5, which tells the two cases of a letter apart.
+const CASE: u8 = 0x20;
 /// Names that the reader uses, and the beginnings of those that the domain leaves out.
 const KEPT: [&str; 13] = [
     "XTENSION", "BITPIX", "NAXIS", "PCOUNT", "GCOUNT", "TFIELDS", "THEAP", "TFORM", "TTYPE",
@@ -75,6 +79,55 @@ pub fn quoted(random: &mut Random, longest: usize) -> String {
         }
     }
     inside.trim_end().to_string()
+}
+
+/// The text with bit 5 of one such byte changed, if it has such a byte. Texts are ASCII here and stay so.
+pub fn flipped(random: &mut Random, text: &str, such: fn(u8) -> bool) -> String {
+    let mut bytes = text.as_bytes().to_vec();
+    let places: Vec<usize> = (0..bytes.len()).filter(|at| such(bytes[*at])).collect();
+    if !places.is_empty() {
+        bytes[places[random.below(places.len())]] ^= CASE;
+    }
+    String::from_utf8(bytes).expect("ASCII")
+}
+
+/// The text with the case of every letter changed.
+pub fn swapped(text: &str) -> String {
+    let swap = |letter: char| match letter {
+        'A'..='Z' => letter.to_ascii_lowercase(),
+        _ => letter.to_ascii_uppercase(),
+    };
+    text.chars().map(swap).collect()
+}
+
+/// The text with each letter in either case, and bytes beside the letters for half of its digits and lines.
+fn varied(random: &mut Random, text: &str) -> String {
+    let mut vary = |byte: u8| match random.below(2) {
+        0 if byte.is_ascii_alphabetic() => byte ^ CASE,
+        0 if NAME.contains(&byte) => BESIDE[random.below(BESIDE.len())],
+        _ => byte,
+    };
+    text.bytes().map(|byte| char::from(vary(byte))).collect()
+}
+
+/// A name of a column, its quotes doubled already: a new one, or one like a name before, which is the same, or in
+/// another case, or else in bit 5 of a byte beside the letters. It is printed ASCII.
+fn name(random: &mut Random, before: &[String]) -> String {
+    if before.is_empty() || random.below(4) > 0 {
+        let text = quoted(random, 68);
+        return match random.below(3) {
+            0 => text,
+            1 => swapped(&text),
+            _ => varied(random, &text),
+        };
+    }
+    let like = &before[random.below(before.len())];
+    match random.below(4) {
+        0 => like.clone(),
+        1 => swapped(like),
+        2 => flipped(random, like, |byte| byte.is_ascii_alphabetic()),
+        _ => flipped(random, like, |byte| BESIDE.contains(&(byte ^ CASE))),
+    }
 }
 
 /// A name that the reader does not use, and that no record before has.
@@ -158,6 +211,21 @@ pub fn bytes(records: &[String]) -> Vec<u8> {
     }
     bytes.resize(bytes.len().next_multiple_of(BLOCK), b' ');
     bytes
+}
+
+/// Gives the columns of a header that have a name other ones, in either case and often alike. The generator is one
+/// of its own, so that the rest of a table is as without it.
+pub fn rename(random: &mut Random, header: &mut [u8]) {
+    let mut before = vec![];
+    for record in header.chunks_exact_mut(RECORD) {
+        if record.starts_with(b"TTYPE") && record[8..].starts_with(b"= ") {
+            let keyword = String::from_utf8_lossy(&record[..8]);
+            let name = name(random, &before);
+            let renamed = string(random, &keyword, &name, Format::Either);
+            record.copy_from_slice(format!("{renamed:RECORD$}").as_bytes());
+            before.push(name);
+        }
+    }
 }
 
 /// The order of the records after the required ones is free.

@@ -2,11 +2,12 @@
 //! text that the port's programs `replay` and `cells` must print, and compared with what they print.
 //!
 //! `tables compare SEED TABLES PROGRAMS FOLDER`: PROGRAMS has `replay` and `cells`, which are run in FOLDER.
-//! `tables controls SEED TABLES PROGRAMS FOLDER`: the same against texts of wrong readers, which must differ.
+//! `tables controls SEED TABLES PROGRAMS FOLDER`: the same against texts of wrong readers, and the columns that
+//! wrong finders of names give, which must differ.
 //! `tables vectors SEED CASES FOLDER`: small cases, each a folder with table.fits, steps.txt and expected.txt.
 //! `tables names SEED TABLES PROGRAMS FOLDER`: layouts, names, and columns found by name, beside the port's
 //! program `layout_cases`.
-//! The status is 1 if a table differs, or a wrong reader does not.
+//! The status is 1 if a table differs, or a wrong reader or finder does not.
 
 #[allow(dead_code)]
 mod common;
@@ -20,6 +21,7 @@ mod wrong;
 use common::{Kind, Random};
 use generate::Table;
 use kinds::{difference, printed, Case, KINDS, VECTORS};
+use names::Batch;
 use reader::{expected, open, Answer, Lengths, Told};
 use std::collections::HashMap;
 use std::fs;
@@ -111,13 +113,14 @@ impl Totals {
 
 fn compare_one(
     random: &mut Random,
+    names: &mut Random,
     number: usize,
     programs: &Path,
     folder: &Path,
     totals: &mut Totals,
 ) -> Result<(), String> {
     let (sizes, lengths) = &KINDS[number % KINDS.len()];
-    let case = Case::random(random, sizes, lengths);
+    let case = Case::random(random, names, sizes, lengths);
     case.write(folder);
     totals.add(&case);
     difference(
@@ -138,7 +141,7 @@ fn compare_one(
 
 /// The number of tables that differ. The folder of the first of them is kept.
 fn compare(seed: u64, tables: usize, programs: &Path, folder: &Path) -> usize {
-    let mut random = Random::new(seed);
+    let (mut random, mut names) = (Random::new(seed), Random::second(seed));
     let mut totals = Totals::default();
     let mut differences = 0;
     for table in 0..tables {
@@ -148,7 +151,7 @@ fn compare(seed: u64, tables: usize, programs: &Path, folder: &Path) -> usize {
             folder.join("next")
         };
         let tried = catch_unwind(AssertUnwindSafe(|| {
-            compare_one(&mut random, table, programs, &into, &mut totals)
+            compare_one(&mut random, &mut names, table, programs, &into, &mut totals)
         }));
         if let Err(text) = tried.unwrap_or_else(|_| Err("the Rust panics".to_string())) {
             differences += 1;
@@ -164,13 +167,16 @@ fn compare(seed: u64, tables: usize, programs: &Path, folder: &Path) -> usize {
     differences
 }
 
+/// On how many tables something wrong was wrong indeed, and on how many of these it was noticed.
+type Made = (usize, usize);
+
 /// The number of wrong texts that the comparison takes for right.
 fn controls(seed: u64, tables: usize, programs: &Path, folder: &Path) -> usize {
-    let mut random = Random::new(seed);
+    let (mut random, mut names) = (Random::new(seed), Random::second(seed));
     let mut made = vec![(0, 0); wrong::READERS.len()];
     for number in 0..tables {
         let (sizes, lengths) = &KINDS[number % KINDS.len()];
-        let case = Case::random(&mut random, sizes, lengths);
+        let case = Case::random(&mut random, &mut names, sizes, lengths);
         case.write(folder);
         let right = expected(&case.replayed.told);
         let printed = printed(programs, "replay", folder);
@@ -184,42 +190,73 @@ fn controls(seed: u64, tables: usize, programs: &Path, folder: &Path) -> usize {
             }
         }
     }
+    let readers = wrong::READERS.iter().map(|reader| reader.0);
+    missed("reader", readers, &made, tables)
+}
+
+/// The same with wrong finders of names.
+fn name_controls(seed: u64, tables: usize, programs: &Path, folder: &Path) -> usize {
+    let (mut random, mut names) = (Random::new(seed), Random::second(seed));
+    let mut made = vec![(0, 0); wrong::FINDERS.len()];
+    for number in 0..tables {
+        let table = Table::named(&mut random, &mut names, &KINDS[number % KINDS.len()].0);
+        let sought = names::sought(&mut names, &table);
+        let right = Batch::of(&table, &sought, None);
+        let printed = right.printed(programs, folder);
+        for (finder, (made, noticed)) in wrong::FINDERS.iter().zip(&mut made) {
+            let wrong = Batch::of(&table, &sought, Some(finder.1));
+            if wrong.lines != right.lines {
+                *made += 1;
+                *noticed += usize::from(!wrong.differences(&printed).is_empty());
+            }
+        }
+    }
+    let finders = wrong::FINDERS.iter().map(|finder| finder.0);
+    missed("finder", finders, &made, tables)
+}
+
+/// Prints what was made and noticed; the number of what was not noticed, or never made.
+fn missed<'a>(
+    what: &str,
+    names: impl Iterator<Item = &'a str>,
+    made: &[Made],
+    tables: usize,
+) -> usize {
     let mut missed = 0;
-    for ((name, _), (made, noticed)) in wrong::READERS.iter().zip(made) {
-        println!("wrong reader, {name}: wrong on {made} of {tables} tables, noticed on {noticed}");
-        missed += made - noticed + usize::from(made == 0);
+    for (name, (made, noticed)) in names.zip(made) {
+        println!("wrong {what}, {name}: wrong on {made} of {tables} tables, noticed on {noticed}");
+        missed += made - noticed + usize::from(*made == 0);
     }
     missed
 }
 
-/// The number of batches whose layouts or names differ. A batch is as many headers as the program reads.
+/// The number of lines on layouts and names that differ. A batch is as many headers as the program reads.
 fn names(seed: u64, tables: usize, programs: &Path, folder: &Path) -> usize {
-    let mut random = Random::new(seed);
-    let mut batch = names::Batch::default();
-    let (mut differences, mut sought) = (0, 0);
+    let (mut random, mut names) = (Random::new(seed), Random::second(seed));
+    let mut batch = Batch::default();
+    let mut totals = names::Totals::default();
     fs::create_dir_all(folder).expect("a folder that can be made");
     for number in 0..tables {
-        let (sizes, _) = &KINDS[number % KINDS.len()];
-        let table = Table::random(&mut random, sizes);
-        sought += batch.add(&mut random, &table);
+        let table = Table::named(&mut random, &mut names, &KINDS[number % KINDS.len()].0);
+        let sought = names::sought(&mut names, &table);
+        batch.add(&table, &sought, None);
         if batch.is_full() || number + 1 == tables {
-            differences += usize::from(batch.compare(programs, folder).is_err());
-            batch = names::Batch::default();
+            totals.add(&batch, programs, folder);
+            batch = Batch::default();
         }
     }
-    println!(
-        "{tables} layouts and {sought} names sought by layout_cases, {differences} differences"
-    );
-    differences
+    totals.print()
 }
 
+/// The tables keep the names that they come with, as those of the list in crates/vectors do.
 fn vectors(seed: u64, cases: usize, folder: &Path) {
     let mut random = Random::new(seed);
     let mut written = 0;
     while written < cases {
-        let case = Case::random(
+        let table = Table::random(&mut random, &VECTORS);
+        let case = Case::of(
             &mut random,
-            &VECTORS,
+            table,
             &Lengths {
                 row_reads: 6,
                 steps: 40,
@@ -254,12 +291,11 @@ fn run() -> Option<usize> {
                 Path::new(folder),
             ))
         }
-        ["controls", _, _, programs, folder] => Some(controls(
-            seed,
-            tables,
-            Path::new(programs),
-            Path::new(folder),
-        )),
+        ["controls", _, _, programs, folder] => {
+            let (programs, folder) = (Path::new(programs), Path::new(folder));
+            let readers = controls(seed, tables, programs, folder);
+            Some(readers + name_controls(seed, tables, programs, folder))
+        }
         ["names", _, _, programs, folder] => {
             Some(names(seed, tables, Path::new(programs), Path::new(folder)))
         }

@@ -1,5 +1,7 @@
-//! Wrong readers: each changes the Rust's answers as a reader with one fault would give them.
+//! Wrong readers: each changes the Rust's answers as a reader with one fault would give them. And wrong finders of
+//! a column by its name.
 
+use crate::names::{Columns, Finder};
 use crate::reader::{Answer, Cell, Told};
 use std::collections::HashMap;
 
@@ -14,6 +16,16 @@ pub const READERS: [(&str, WrongReader); 8] = [
     ("the index of an item from 1", index),
     ("one entry too many passed", passed),
     ("a row read that leaves out its last cell", short_row),
+];
+
+pub const FINDERS: [(&str, Finder); 7] = [
+    ("the column after it", after),
+    ("by the same bytes", by_bytes),
+    ("by the same bytes before another case", by_bytes_first),
+    ("the last column that is alike", last),
+    ("every byte taken for a letter", folded::<0, 255>),
+    ("@ and [ taken for letters", folded::<b'@', b'['>),
+    ("Z and z apart", folded::<b'A', b'Y'>),
 ];
 
 /// The answers with every cell changed, in order.
@@ -94,4 +106,36 @@ fn short_row(told: &[Told]) -> Vec<Told> {
         }
     }
     told
+}
+
+fn first(columns: &Columns, alike: impl Fn(&str) -> bool) -> Option<usize> {
+    let mut columns = columns.iter().map(Option::as_deref);
+    columns.position(|own| own.is_some_and(&alike))
+}
+
+fn after(columns: &Columns, name: &str) -> Option<usize> {
+    folded::<b'A', b'Z'>(columns, name).map(|column| column + 1)
+}
+
+fn by_bytes(columns: &Columns, name: &str) -> Option<usize> {
+    first(columns, |own| own == name)
+}
+
+fn by_bytes_first(columns: &Columns, name: &str) -> Option<usize> {
+    by_bytes(columns, name).or_else(|| folded::<b'A', b'Z'>(columns, name))
+}
+
+fn last(columns: &Columns, name: &str) -> Option<usize> {
+    let mut columns = columns.iter().map(Option::as_deref);
+    columns.rposition(|own| own.is_some_and(|own| own.eq_ignore_ascii_case(name)))
+}
+
+/// The first column whose name is alike, if bit 5 says the case of the bytes from the first to the last.
+fn folded<const FIRST: u8, const LAST: u8>(columns: &Columns, name: &str) -> Option<usize> {
+    let fold = |byte: u8| match byte & !0x20 {
+        upper if (FIRST..=LAST).contains(&upper) => upper,
+        _ => byte,
+    };
+    let folded = |text: &str| text.bytes().map(fold).collect::<Vec<u8>>();
+    first(columns, |own| folded(own) == folded(name))
 }
