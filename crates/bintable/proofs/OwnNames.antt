@@ -1,4 +1,5 @@
--- The name of a column in the header that its layout was made from is the text of TTYPEn: that header is never too short for it.
+-- The name of a column in the header that its layout was made from is the text of TTYPEn: that header is never too short for it. By a
+-- name that is alike to it the column is found, or one in front of it.
 -- Assumes nothing.
 use mathlib.Core.Path.{◌≡◌, refl, sym, ◌∙◌, ap, subst}
 use mathlib.Core.Bool.{true, ◌&&◌}
@@ -58,7 +59,7 @@ module _ (h : List ℕ) where
   reached (At k) a n e = value-inside a n h k e
   reached Nothing a n e = absurd (let w : ◌≡◌ {A = ℕ} 0 1 = cc in omega arith)
 
-  -- TTYPEn is the string of n bytes from byte a on
+  -- the TTYPEn of column c is the string of n bytes from byte a on
   module _ (c a n : ℕ) (p : c < (layoutOf h).tfields) (v : valueAt h (ttypeOf h (c + 1)) ≡ String a n) where
     own-stretch : (get_or (columnsOf (layoutOf h)) c noColumn).name ≡ Stretch a n
     own-stretch = ap (λ (x : Column). x.name) (column-at (layoutOf h) c p) ∙ listed c p ∙ ap nameIn v

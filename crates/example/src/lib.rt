@@ -11,7 +11,8 @@ use refusal::{Check, Refusal};
 use row::owners::RowCell;
 use walk::Answer;
 
-// The first cell of the column WEIGHT or Weight, the end, or what refuses the table, the column or the cell.
+// The first cell of the first column named WEIGHT, in either case, the end, or what refuses the table, the column or
+// the cell.
 pub fn first_weight(header: &[u8], area: &[u8]) -> Answer
     ensures { replyOf result ≡ firstWeight header.now area.now }
 {

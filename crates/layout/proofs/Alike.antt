@@ -1,13 +1,14 @@
 -- Bytes and names that are alike.
 -- Assumes nothing.
-use Prim.Native.Nat.{ℕ, zero, suc, ◌+◌, ◌≤◌}
+use Prim.Native.Nat.{ℕ, zero, suc, ◌+◌, ◌≤◌, ◌<◌}
 use mathlib.Core.Path.{◌≡◌, refl, sym, ◌∙◌}
 use mathlib.Core.Bool.{true, false, ◌&&◌, ◌||◌, false≢true, and-false}
 use mathlib.Core.List.{List, [], ◌∷◌}
 use native.Mathlib.Omega.{arith}
 use lib.Dec.{eqb}
-use lib.ListN.{get_or, take, drop}
+use lib.ListN.{length, get_or, take, drop}
 use lib.Pointwise.{pointwise}
+use Rattle.std.specs.Char.{to_ascii_lowercase, eq_ignore_ascii_case}
 use Rattle.std.specs.Cmp.{IsEquivalence, nat_eq_equiv}
 use Rattle.std.specs.Cmp.Lexicographic.{lists_equiv}
 use Rattle.ascii.specs.Text.{same}
@@ -27,6 +28,18 @@ alike-equivalence = record {
 pub names-equivalence : IsEquivalence (pointwise alike)
 names-equivalence = lists_equiv alike-equivalence
 
+-- it is what Rust's `eq_ignore_ascii_case` says of two bytes
+lowercase-ascii : (b : ℕ) → lowercase b ≡ to_ascii_lowercase b
+lowercase-ascii b = grind arith
+
+pub alike-ascii : (a b : ℕ) → alike a b ≡ eq_ignore_ascii_case a b
+alike-ascii a b = rw (lowercase-ascii a, lowercase-ascii b) refl
+
+-- A and a, Z and z; the bytes beside the letters, and two letters of Latin-1
+pub beside-letters :
+    (alike 65 97 ≡ true) × (alike 90 122 ≡ true) × (alike 64 96 ≡ false) × (alike 91 123 ≡ false) × (alike 196 228 ≡ false)
+beside-letters = (refl, refl, refl, refl, refl)
+
 -- a byte that is no letter is like itself alone
 pub other-alone : (a b : ℕ) → letter b ≡ false → alike a b ≡ eqb a b
 other-alone a b e = grind arith
@@ -38,6 +51,20 @@ capital-pair a b l u = grind arith
 -- and so is a small one and the one 32 before
 pub small-pair : (a b : ℕ) → 97 ≤ a → a ≤ 122 → alike a b ≡ (eqb b a || eqb (b + 32) a)
 small-pair a b l u = grind arith
+
+-- names are alike just where they are as long and each byte is like the one at its place
+pub each-alike : (p s : List ℕ) → pointwise alike p s ≡ true → (i : ℕ) → alike (get_or p i 0) (get_or s i 0) ≡ true
+each-alike [] [] e i = refl
+each-alike [] (y ∷ ys) e i = absurd (false≢true e)
+each-alike (x ∷ xs) [] e i = absurd (false≢true e)
+each-alike (x ∷ xs) (y ∷ ys) e zero = (both (alike x y) (pointwise alike xs ys) e).0
+each-alike (x ∷ xs) (y ∷ ys) e (suc i) = each-alike xs ys (both (alike x y) (pointwise alike xs ys) e).1 i
+
+pub all-alike : (p s : List ℕ) → length p ≡ length s → ((i : ℕ) → i < length s → alike (get_or p i 0) (get_or s i 0) ≡ true) → pointwise alike p s ≡ true
+all-alike [] [] n a = refl
+all-alike [] (y ∷ ys) n a = absurd (omega (arith, n))
+all-alike (x ∷ xs) [] n a = absurd (omega (arith, n))
+all-alike (x ∷ xs) (y ∷ ys) n a = rw (a 0 (omega arith)) (all-alike xs ys (omega (arith, n)) (λ i p. a (suc i) (omega (arith, p))))
 
 -- the same bytes are alike
 pub bytes-alike : (p s : List ℕ) → same p s ≡ true → pointwise alike p s ≡ true
@@ -51,7 +78,7 @@ bytes_alone [] (y ∷ ys) n = refl
 bytes_alone (x ∷ xs) [] n = refl
 bytes_alone (x ∷ xs) (y ∷ ys) n = rw (other-alone x y (n 0), bytes_alone xs ys (λ i. n (suc i)))
 
--- the parts of texts that are alike, and with two quotes as one
+-- if two texts are alike, so are their parts, and both with two quotes as one
 pub front-alike : (n : ℕ) (xs ys : List ℕ) → pointwise alike xs ys ≡ true → pointwise alike (take n xs) (take n ys) ≡ true
 front-alike zero xs ys e = refl
 front-alike (suc n) [] [] e = refl

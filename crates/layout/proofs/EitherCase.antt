@@ -6,7 +6,7 @@ use mathlib.Core.Bool.{Bool, true, false, ◌&&◌, true≢false}
 use mathlib.Core.List.{List}
 use native.Mathlib.Omega.{arith}
 use lib.Dec.{ltb}
-use lib.ListN.{get_or, drop}
+use lib.ListN.{length, get_or, drop}
 use lib.Pointwise.{pointwise, pointwise_long}
 use borrow.Author.Tests.{ltb-true, ltb-false}
 use Rattle.ascii.specs.Text.{same}
@@ -21,7 +21,7 @@ use Rattle.layout.specs.Names.{undoubled, columnName, stretchOf, inHeader, alike
 use Rattle.layout.specs.EitherCase.{letter, named, hasBytes, findBytes}
 use Rattle.layout.proofs.Named.{part-in-header, name-at, column-at, found-inside}
 use Rattle.layout.proofs.First.{not_both, nothing-else, first-passes, first-none, first-upto, first-same}
-use Rattle.layout.proofs.Alike.{names-equivalence, bytes-alike, bytes_alone, front-alike, rest-alike, undoubled-alike}
+use Rattle.layout.proofs.Alike.{names-equivalence, each-alike, bytes-alike, bytes_alone, front-alike, rest-alike, undoubled-alike}
 
 module _ (h : List ℕ) (l : BinTable) (s : List ℕ) where
   -- the column that is found has the name, and none in front of it has
@@ -46,7 +46,10 @@ module _ (h : List ℕ) (l : BinTable) (s : List ℕ) where
   pub first-found : (c : ℕ) → named h l s c ≡ true → ((d : ℕ) → d < c → named h l s d ≡ false) → findName h l s ≡ At c
   first-found c e before =
       let q = found-upto c e in
-      let k : q.0 ≡ c = either (ltb q.0 c) (λ t. absurd (true≢false (sym q.3 ∙ before q.0 (ltb-true q.0 c t)))) (λ t. omega (arith, q.2, ltb-false q.0 c t)) in
+      let k : q.0 ≡ c =
+      either (ltb q.0 c)
+      (λ t. absurd (true≢false (sym q.3 ∙ before q.0 (ltb-true q.0 c t))))
+      (λ t. omega (arith, q.2, ltb-false q.0 c t)) in
       q.1 ∙ ap At k
 
   -- where a single column has the name, it is that one
@@ -77,9 +80,9 @@ module _ (h : List ℕ) (l : BinTable) (s : List ℕ) where
   nothing-by-bytes n = nothing-else (findBytes h l s) (λ c e. let d = found-by-bytes c e in not_both (findName h l s) d.0 n d.1)
 
   -- a name without letters is found as by its bytes
-  pub found-letterless : ((i : ℕ) → letter (get_or s i 0) ≡ false) → findName h l s ≡ findBytes h l s
+  pub found-without-letters : ((i : ℕ) → letter (get_or s i 0) ≡ false) → findName h l s ≡ findBytes h l s
   unfolding findName findBytes
-  found-letterless n =
+  found-without-letters n =
       first-same (hasName h s) (hasBytes h s)
       (λ x. ap (λ (b : Bool). inHeader h x.name && b) (bytes_alone (undoubled (stretchOf h x.name)) s n))
       0 (columnsOf l)
@@ -93,13 +96,19 @@ found-either-case h l s t e =
     like : (p : List ℕ) → pointwise alike p s ≡ pointwise alike p t
     like p = names-equivalence.symm p s ∙ names-equivalence.congr s t p e ∙ names-equivalence.symm t p
 
--- the name of the column that is found is handed back as the header has it, and is alike
-pub found-name : (h : List ℕ) (l : BinTable) (s : List ℕ) (c : ℕ) → findName h l s ≡ At c → sameName (columnName h l c) s ≡ true
+-- the name that is handed back of the column that is found: the header's own bytes, and with two quotes as one as long as the name
+-- sought and alike at each place
+pub found-name : (h : List ℕ) (l : BinTable) (s : List ℕ) (c : ℕ) → findName h l s ≡ At c
+    → (columnName h l c ≡ stretchOf h (get_or l.columns c noColumn).name)
+    × (length (undoubled (columnName h l c)) ≡ length s)
+    × ((i : ℕ) → alike (get_or (undoubled (columnName h l c)) i 0) (get_or s i 0) ≡ true)
 found-name h l s c e =
     let x = get_or l.columns c noColumn in let i = (found-inside h l s c e).0 in
     let q : hasName h s x ≡ true = subst (λ (y : Column). hasName h s y ≡ true) (column-at l c i) (found-first h l s c e).0 in
     let b = both (inHeader h x.name) (sameName (stretchOf h x.name) s) q in
-    rw (← name-at h l c i, part-in-header h x.name b.0) b.1
+    let own = sym (name-at h l c i) ∙ part-in-header h x.name b.0 in
+    let same : sameName (columnName h l c) s ≡ true = rw own b.1 in
+    (own, pointwise_long alike (undoubled (columnName h l c)) s same, each-alike (undoubled (columnName h l c)) s same)
 
 -- a header in another case: the same columns are found in it
 module _ (g h : List ℕ) (e : pointwise alike g h ≡ true) where

@@ -8,7 +8,9 @@ use mathlib.Core.Logic.{◌⊎◌, inl, inr, ⊎_elim}
 use native.Mathlib.Nat.{add-zero}
 use native.Mathlib.Omega.{arith}
 use lib.Dec.{ltb}
-use lib.ListN.{get_or}
+use lib.ListN.{length, get_or, drop, drop_of_length-le, get_or-eq_default}
+use lib.Seq.{drop-cons}
+use native.Mathlib.Numerals.{add-one}
 use borrow.Author.Tests.{ltb-true, ltb-false}
 use Rattle.ascii.specs.declared.Found.{Found}
 use Rattle.ascii.specs.declared.Found.TheVariants.{At, Nothing}
@@ -23,6 +25,20 @@ not_both f c n a = let z : ◌≡◌ {A = ℕ} 0 1 = cc in omega arith
 pub nothing-else : (f : Found) → ((c : ℕ) → f ≡ At c → ⊥) → f ≡ Nothing
 nothing-else Nothing n = refl
 nothing-else (At c) n = absurd (n c refl)
+
+-- the search from column i on, as a loop goes
+module _ (test : Column → Bool) (cs : List Column) (i : ℕ) where
+  pub first-here : i < length cs → test (get_or cs i noColumn) ≡ true → At i ≡ firstColumn test i (drop i cs)
+  unfolding firstColumn
+  first-here p e = rw (drop-cons cs i noColumn p, e)
+
+  pub first-later : i < length cs → test (get_or cs i noColumn) ≡ false → firstColumn test i (drop i cs) ≡ firstColumn test (i + 1) (drop (i + 1) cs)
+  unfolding firstColumn
+  first-later p e = rw (add-one i, drop-cons cs i noColumn p, e)
+
+  pub first-over : length cs ≤ i → Nothing ≡ firstColumn test i (drop i cs)
+  unfolding firstColumn
+  first-over p = rw (drop_of_length-le cs {i = i} p)
 
 -- a search for the first column that passes a test, which no column that is not there does
 module _ (test : Column → Bool) (none : test noColumn ≡ false) where
@@ -57,7 +73,8 @@ module _ (test : Column → Bool) (none : test noColumn ≡ false) where
       (search-ends (suc i) xs))
 
   -- the same from the first column on
-  from_front : (cs : List Column) → FirstAt 0 cs → (d : ℕ) × (firstColumn test 0 cs ≡ At d) × (passes cs d ≡ true) × ((e : ℕ) → e < d → passes cs e ≡ false)
+  from_front : (cs : List Column) → FirstAt 0 cs
+      → (d : ℕ) × (firstColumn test 0 cs ≡ At d) × (passes cs d ≡ true) × ((e : ℕ) → e < d → passes cs e ≡ false)
   unfolding FirstAt
   from_front cs q = let z : 0 + q.0 ≡ q.0 = omega arith in (q.0, q.1 ∙ ap At z, q.2, q.3)
 
@@ -83,12 +100,17 @@ module _ (test : Column → Bool) (none : test noColumn ≡ false) where
   first-upto cs c e =
       ⊎_elim
       (λ f. let q = from_front cs f in
-      (q.0, q.1, either (ltb c q.0) (λ t. absurd (true≢false (sym e ∙ q.3 c (ltb-true c q.0 t)))) (λ t. ltb-false c q.0 t), q.2))
+      (q.0, q.1, either (ltb c q.0) (λ t. absurd (true≢false (sym e ∙ q.3 c (ltb-true c q.0 t)))) (ltb-false c q.0), q.2))
       (λ q. absurd (true≢false (sym e ∙ q.1 c)))
       (search-ends 0 cs)
 
+  -- a column that is found is one of those searched
+  pub first-inside : (cs : List Column) (c : ℕ) → firstColumn test 0 cs ≡ At c → c < length cs
+  first-inside cs c e =
+      either (ltb c (length cs))
+      (λ t. ltb-true c (length cs) t)
+      (λ t. absurd (true≢false (sym (first-passes cs c e).0 ∙ ap test (get_or-eq_default cs noColumn {n = c} (ltb-false c (length cs) t)) ∙ none)))
+
 -- two tests that say the same of every column find the same
 pub first-same : (f g : Column → Bool) → ((x : Column) → f x ≡ g x) → (i : ℕ) (cs : List Column) → firstColumn f i cs ≡ firstColumn g i cs
-unfolding firstColumn
-first-same f g h i [] = refl
-first-same f g h i (x ∷ xs) = rw (h x, first-same f g h (suc i) xs)
+first-same f g h i cs = λ k. firstColumn (λ (x : Column). h x k) i cs

@@ -1,6 +1,6 @@
 -- A name compared byte by byte, two quotes taken as one.
 -- Assumes nothing.
-use mathlib.Core.Path.{◌≡◌, sym, ◌∙◌, ap}
+use mathlib.Core.Path.{◌≡◌, refl, sym, ◌∙◌, ap}
 use mathlib.Core.Bool.{true, false, ◌&&◌, and-false, cond}
 use mathlib.Core.List.{List, [], ◌∷◌}
 use Prim.Native.Nat.{ℕ, suc, ◌+◌, ◌≤◌, ◌<◌}
@@ -13,6 +13,7 @@ use lib.Seq.{drop-cons, drop-drop, get_or-drop}
 use borrow.Author.Tests.{ne_eqb, eqb-true, eqb-false, ltb-true, ltb-false}
 use Rattle.ascii.proofs.Cases.{either, by-test, both}
 use Rattle.layout.specs.Names.{undoubled, alike}
+use Rattle.layout.specs.EitherCase.{doubled}
 
 -- how many bytes count as the one at i
 abbrev pub byteLen : List ℕ → ℕ → ℕ
@@ -46,6 +47,20 @@ undoubled-next p i h =
     ∙ ap (λ (l : List ℕ). b ∷ undoubled l)
     (ap (λ (x : ℕ). drop (cond (eqb b 39 && eqb x 39) 2 1) (b ∷ drop (suc i) p)) (next-byte i p)
     ∙ ap (drop (byteLen p i)) (sym (drop-cons p i 0 h)) ∙ drop-drop (byteLen p i) i p)
+
+-- a text that a header writes with each quote as two is that text
+undoubled-other : (b : ℕ) (t : List ℕ) → eqb b 39 ≡ false → undoubled (b ∷ t) ≡ b ∷ undoubled t
+unfolding undoubled
+undoubled-other b [] e = refl
+undoubled-other b (c ∷ cs) e = rw e refl
+
+pub undoubled-doubled : (s : List ℕ) → undoubled (doubled s) ≡ s
+unfolding undoubled doubled
+undoubled-doubled [] = refl
+undoubled-doubled (b ∷ bs) =
+    either (eqb b 39)
+    (λ e. rw (e, undoubled-doubled bs, eqb-true b 39 e) refl)
+    (λ e. rw e (undoubled-other b (doubled bs) e ∙ ap (λ (t : List ℕ). b ∷ t) (undoubled-doubled bs)))
 
 pub undoubled-end : (p : List ℕ) (i : ℕ) → length p ≤ i → undoubled (drop i p) ≡ []
 unfolding undoubled

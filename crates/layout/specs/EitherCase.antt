@@ -1,6 +1,6 @@
 -- What the laws on finding a name in either case speak of. No contract cites it.
 -- Assumes nothing.
-use Rattle.std.specs.Prelude.{ℕ, List, Bool, ◌&&◌, ◌||◌, get_or, leb}
+use Rattle.std.specs.Prelude.{ℕ, List, [], ◌∷◌, Bool, ◌&&◌, ◌||◌, cond, get_or, eqb, leb}
 use Rattle.ascii.specs.Text.{same}
 use Rattle.ascii.specs.declared.Found.{Found}
 use Rattle.layout.specs.declared.Column.{Column}
@@ -11,6 +11,11 @@ use Rattle.layout.specs.Names.{inHeader, stretchOf, undoubled, hasName, firstCol
 -- A (65) to Z (90), and a (97) to z (122)
 abbrev pub letter : ℕ → Bool
 letter b = (leb 65 b && leb b 90) || (leb 97 b && leb b 122)
+
+-- a text as a header writes it, each quote (39) as two
+unfoldable pub doubled : List ℕ → List ℕ
+doubled [] = []
+doubled (b ∷ bs) = cond (eqb b 39) (39 ∷ 39 ∷ doubled bs) (b ∷ doubled bs)
 
 -- whether column c of a layout has the name sought; where there is no such column it does not
 abbrev pub named : List ℕ → BinTable → List ℕ → ℕ → Bool

@@ -57,7 +57,7 @@ fn byte_len(part: &[u8], at: usize) -> usize
     2
 }
 
-// A to Z as a to z; every other byte as it is.
+// A to Z as a to z, every other byte as it is.
 fn lowercase(byte: u8) -> u8
     ensures { result ≡ lowercase byte }
 {
@@ -70,7 +70,7 @@ fn lowercase(byte: u8) -> u8
     byte + 32
 }
 
-// Whether two bytes are the same, or the same letter in two cases.
+// Whether two bytes are the same, or the same letter in two cases. Equal bytes are told at once, for speed.
 fn alike(a: u8, b: u8) -> bool
     ensures { result ≡ alike a b }
 {

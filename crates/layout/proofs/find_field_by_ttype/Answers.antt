@@ -3,7 +3,8 @@ use Rattle.std.proofs.Common.{◌≡◌, true, false, min, length, get_or, refl,
 use Rattle.layout.specs.Layout.{noColumn, columnsOf}
 use Rattle.layout.specs.Names.{hasName, findName}
 use Rattle.layout.specs.declared.BinTable.{BinTable}
-use Rattle.layout.proofs.Named.{column-at, named_here, named-later, named_none}
+use Rattle.layout.proofs.Named.{column-at}
+use Rattle.layout.proofs.First.{first-here, first-later, first-over}
 use Rattle.layout.proofs.find_field_by_ttype.Goals as goal
 
 columns : (l : BinTable) → length l.columns ≡ 64 → length (columnsOf l) ≡ min l.tfields 64
@@ -18,17 +19,17 @@ returns-then-has_name c =
     let l = c.args.layout in let i = c.loop-i.i in
     let n = columns l (omega arith) in
     let e : hasName c.args.header.now c.args.name.now (get_or (columnsOf l) i noColumn) ≡ true = rw (column-at l i (omega arith)) (cc) in
-    named_here (hasName c.args.header.now c.args.name.now) (columnsOf l) i (omega (arith, n)) e ∙ sym c.loop-i.invariant
+    first-here (hasName c.args.header.now c.args.name.now) (columnsOf l) i (omega (arith, n)) e ∙ sym c.loop-i.invariant
 
 pub loop-i-preserved : goal.loop-i-preserved
 loop-i-preserved c =
     let l = c.args.layout in let i = c.loop-i.i in
     let n = columns l (omega arith) in
     let e : hasName c.args.header.now c.args.name.now (get_or (columnsOf l) i noColumn) ≡ false = rw (column-at l i (omega arith)) (cc) in
-    c.loop-i.invariant ∙ named-later (hasName c.args.header.now c.args.name.now) (columnsOf l) i (omega (arith, n)) e
+    c.loop-i.invariant ∙ first-later (hasName c.args.header.now c.args.name.now) (columnsOf l) i (omega (arith, n)) e
 
 pub returns : goal.returns
 returns c =
     let l = c.args.layout in
     let n = columns l (omega arith) in
-    named_none (hasName c.args.header.now c.args.name.now) (columnsOf l) c.loop-i.i (omega (arith, n)) ∙ sym c.loop-i.invariant
+    first-over (hasName c.args.header.now c.args.name.now) (columnsOf l) c.loop-i.i (omega (arith, n)) ∙ sym c.loop-i.invariant
