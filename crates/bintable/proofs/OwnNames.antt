@@ -1,5 +1,5 @@
--- The name of a column in the header that its layout was made from is the text of TTYPEn: that header is never too short for it. By a
--- name that is alike to it the column is found, or one in front of it.
+-- The name of a column in the header that its layout was made from is the text of TTYPEn: that header is never too short
+-- for it. By a name that is alike to it the column is found, or one in front of it.
 -- Assumes nothing.
 use mathlib.Core.Path.{◌≡◌, refl, sym, ◌∙◌, ap, subst}
 use mathlib.Core.Bool.{true, ◌&&◌}
@@ -65,7 +65,8 @@ module _ (h : List ℕ) where
     own-stretch = ap (λ (x : Column). x.name) (column-at (layoutOf h) c p) ∙ listed c p ∙ ap nameIn v
 
     -- if that is alike to the name sought, its column is found or one in front of it is
-    pub own-found : (s : List ℕ) → sameName (textIn h (String a n)) s ≡ true → (d : ℕ) × (findName h (layoutOf h) s ≡ At d) × (d ≤ c)
+    pub own-found : (s : List ℕ) → sameName (textIn h (String a n)) s ≡ true
+        → (d : ℕ) × (findName h (layoutOf h) s ≡ At d) × (d ≤ c)
     own-found s e =
         let i = le-leb (a + n) (length h) (reached (ttypeOf h (c + 1)) a n v) in
         let has = subst (λ (m : Name). (inHeader h m && sameName (stretchOf h m) s) ≡ true) (sym own-stretch) (rw i e) in

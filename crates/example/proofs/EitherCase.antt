@@ -16,5 +16,6 @@ weight-by g h a q (accepted l) = ap (weightOf l a) (found-other-header g h q l (
 weight-by g h a q (refused n p) = refl
 
 -- two headers that differ in the case of letters alone and are the same to the entry give the same first weight
-pub weight-other-header : (g h a : List ℕ) → pointwise alike g h ≡ true → entry g a ≡ entry h a → firstWeight g a ≡ firstWeight h a
+pub weight-other-header : (g h a : List ℕ) → pointwise alike g h ≡ true → entry g a ≡ entry h a
+    → firstWeight g a ≡ firstWeight h a
 weight-other-header g h a q e = rw e (weight-by g h a q (entry h a))

@@ -60,11 +60,13 @@ each-alike (x ∷ xs) [] e i = absurd (false≢true e)
 each-alike (x ∷ xs) (y ∷ ys) e zero = (both (alike x y) (pointwise alike xs ys) e).0
 each-alike (x ∷ xs) (y ∷ ys) e (suc i) = each-alike xs ys (both (alike x y) (pointwise alike xs ys) e).1 i
 
-pub all-alike : (p s : List ℕ) → length p ≡ length s → ((i : ℕ) → i < length s → alike (get_or p i 0) (get_or s i 0) ≡ true) → pointwise alike p s ≡ true
+pub all-alike : (p s : List ℕ) → length p ≡ length s
+    → ((i : ℕ) → i < length s → alike (get_or p i 0) (get_or s i 0) ≡ true) → pointwise alike p s ≡ true
 all-alike [] [] n a = refl
 all-alike [] (y ∷ ys) n a = absurd (omega (arith, n))
 all-alike (x ∷ xs) [] n a = absurd (omega (arith, n))
-all-alike (x ∷ xs) (y ∷ ys) n a = rw (a 0 (omega arith)) (all-alike xs ys (omega (arith, n)) (λ i p. a (suc i) (omega (arith, p))))
+all-alike (x ∷ xs) (y ∷ ys) n a =
+    rw (a 0 (omega arith)) (all-alike xs ys (omega (arith, n)) (λ i p. a (suc i) (omega (arith, p))))
 
 -- the same bytes are alike
 pub bytes-alike : (p s : List ℕ) → same p s ≡ true → pointwise alike p s ≡ true
@@ -84,7 +86,8 @@ front-alike zero xs ys e = refl
 front-alike (suc n) [] [] e = refl
 front-alike (suc n) [] (y ∷ ys) e = absurd (false≢true e)
 front-alike (suc n) (x ∷ xs) [] e = absurd (false≢true e)
-front-alike (suc n) (x ∷ xs) (y ∷ ys) e = let q = both (alike x y) (pointwise alike xs ys) e in rw q.0 (front-alike n xs ys q.1)
+front-alike (suc n) (x ∷ xs) (y ∷ ys) e =
+    let q = both (alike x y) (pointwise alike xs ys) e in rw q.0 (front-alike n xs ys q.1)
 
 pub rest-alike : (n : ℕ) (xs ys : List ℕ) → pointwise alike xs ys ≡ true → pointwise alike (drop n xs) (drop n ys) ≡ true
 rest-alike zero xs ys e = e

@@ -77,7 +77,8 @@ module _ (h : List ℕ) (l : BinTable) (s : List ℕ) where
 
   -- where no column has the name in either case, none has its bytes
   pub nothing-by-bytes : findName h l s ≡ Nothing → findBytes h l s ≡ Nothing
-  nothing-by-bytes n = nothing-else (findBytes h l s) (λ c e. let d = found-by-bytes c e in not_both (findName h l s) d.0 n d.1)
+  nothing-by-bytes n =
+      nothing-else (findBytes h l s) (λ c e. let d = found-by-bytes c e in not_both (findName h l s) d.0 n d.1)
 
   -- a name without letters is found as by its bytes
   pub found-without-letters : ((i : ℕ) → letter (get_or s i 0) ≡ false) → findName h l s ≡ findBytes h l s
@@ -88,23 +89,26 @@ module _ (h : List ℕ) (l : BinTable) (s : List ℕ) where
       0 (columnsOf l)
 
 -- two names that are alike find the same
-pub found-either-case : (h : List ℕ) (l : BinTable) (s t : List ℕ) → pointwise alike s t ≡ true → findName h l s ≡ findName h l t
+pub found-either-case : (h : List ℕ) (l : BinTable) (s t : List ℕ) → pointwise alike s t ≡ true
+    → findName h l s ≡ findName h l t
 unfolding findName
 found-either-case h l s t e =
-    first-same (hasName h s) (hasName h t) (λ x. ap (λ (b : Bool). inHeader h x.name && b) (like (undoubled (stretchOf h x.name)))) 0 (columnsOf l)
+    first-same (hasName h s) (hasName h t)
+    (λ x. ap (λ (b : Bool). inHeader h x.name && b) (like (undoubled (stretchOf h x.name))))
+    0 (columnsOf l)
   where
     like : (p : List ℕ) → pointwise alike p s ≡ pointwise alike p t
     like p = names-equivalence.symm p s ∙ names-equivalence.congr s t p e ∙ names-equivalence.symm t p
 
--- the name that is handed back of the column that is found: the header's own bytes, and with two quotes as one as long as the name
--- sought and alike at each place
+-- the name that is handed back of the column that is found is the header's own bytes, and with two quotes as one it is as
+-- long as the name sought and alike in each place
 pub found-name : (h : List ℕ) (l : BinTable) (s : List ℕ) (c : ℕ) → findName h l s ≡ At c
     → (columnName h l c ≡ stretchOf h (get_or l.columns c noColumn).name)
     × (length (undoubled (columnName h l c)) ≡ length s)
     × ((i : ℕ) → alike (get_or (undoubled (columnName h l c)) i 0) (get_or s i 0) ≡ true)
 found-name h l s c e =
     let x = get_or l.columns c noColumn in let i = (found-inside h l s c e).0 in
-    let q : hasName h s x ≡ true = subst (λ (y : Column). hasName h s y ≡ true) (column-at l c i) (found-first h l s c e).0 in
+    let q = subst (λ (y : Column). hasName h s y ≡ true) (column-at l c i) (found-first h l s c e).0 in
     let b = both (inHeader h x.name) (sameName (stretchOf h x.name) s) q in
     let own = sym (name-at h l c i) ∙ part-in-header h x.name b.0 in
     let same : sameName (columnName h l c) s ≡ true = rw own b.1 in

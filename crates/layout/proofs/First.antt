@@ -32,7 +32,8 @@ module _ (test : Column → Bool) (cs : List Column) (i : ℕ) where
   unfolding firstColumn
   first-here p e = rw (drop-cons cs i noColumn p, e)
 
-  pub first-later : i < length cs → test (get_or cs i noColumn) ≡ false → firstColumn test i (drop i cs) ≡ firstColumn test (i + 1) (drop (i + 1) cs)
+  pub first-later : i < length cs → test (get_or cs i noColumn) ≡ false
+      → firstColumn test i (drop i cs) ≡ firstColumn test (i + 1) (drop (i + 1) cs)
   unfolding firstColumn
   first-later p e = rw (add-one i, drop-cons cs i noColumn p, e)
 
@@ -47,7 +48,8 @@ module _ (test : Column → Bool) (none : test noColumn ≡ false) where
 
   -- it ends at a column that passes and has none in front of it that does, or no column does
   FirstAt : ℕ → List Column → Type 0
-  FirstAt i cs = (d : ℕ) × (firstColumn test i cs ≡ At (i + d)) × (passes cs d ≡ true) × ((e : ℕ) → e < d → passes cs e ≡ false)
+  FirstAt i cs =
+      (d : ℕ) × (firstColumn test i cs ≡ At (i + d)) × (passes cs d ≡ true) × ((e : ℕ) → e < d → passes cs e ≡ false)
 
   NoneAt : ℕ → List Column → Type 0
   NoneAt i cs = (firstColumn test i cs ≡ Nothing) × ((e : ℕ) → passes cs e ≡ false)
@@ -57,7 +59,8 @@ module _ (test : Column → Bool) (none : test noColumn ≡ false) where
   in-front x xs d t h zero p = t
   in-front x xs d t h (suc e) p = h e (omega (arith, p))
 
-  nowhere : (x : Column) (xs : List Column) → test x ≡ false → ((e : ℕ) → passes xs e ≡ false) → (e : ℕ) → passes (x ∷ xs) e ≡ false
+  nowhere : (x : Column) (xs : List Column) → test x ≡ false → ((e : ℕ) → passes xs e ≡ false)
+      → (e : ℕ) → passes (x ∷ xs) e ≡ false
   nowhere x xs t h zero = t
   nowhere x xs t h (suc e) = h e
 
@@ -68,7 +71,8 @@ module _ (test : Column → Bool) (none : test noColumn ≡ false) where
       either (test x)
       (λ t. inl (0, rw (t, add-zero i) refl, t, λ e p. absurd (omega (arith, p))))
       (λ t. ⊎_elim
-      (λ q. let k : suc i + q.0 ≡ i + suc q.0 = omega arith in inl (suc q.0, rw t (q.1 ∙ ap At k), q.2, in-front x xs q.0 t q.3))
+      (λ q. let k : suc i + q.0 ≡ i + suc q.0 = omega arith in
+      inl (suc q.0, rw t (q.1 ∙ ap At k), q.2, in-front x xs q.0 t q.3))
       (λ q. inr (rw t q.0, nowhere x xs t q.1))
       (search-ends (suc i) xs))
 
@@ -78,7 +82,8 @@ module _ (test : Column → Bool) (none : test noColumn ≡ false) where
   unfolding FirstAt
   from_front cs q = let z : 0 + q.0 ≡ q.0 = omega arith in (q.0, q.1 ∙ ap At z, q.2, q.3)
 
-  pub first-passes : (cs : List Column) (c : ℕ) → firstColumn test 0 cs ≡ At c → (passes cs c ≡ true) × ((d : ℕ) → d < c → passes cs d ≡ false)
+  pub first-passes : (cs : List Column) (c : ℕ) → firstColumn test 0 cs ≡ At c
+      → (passes cs c ≡ true) × ((d : ℕ) → d < c → passes cs d ≡ false)
   unfolding NoneAt
   first-passes cs c e =
       ⊎_elim
@@ -95,7 +100,8 @@ module _ (test : Column → Bool) (none : test noColumn ≡ false) where
       (λ q. q.1)
       (search-ends 0 cs)
 
-  pub first-upto : (cs : List Column) (c : ℕ) → passes cs c ≡ true → (d : ℕ) × (firstColumn test 0 cs ≡ At d) × (d ≤ c) × (passes cs d ≡ true)
+  pub first-upto : (cs : List Column) (c : ℕ) → passes cs c ≡ true
+      → (d : ℕ) × (firstColumn test 0 cs ≡ At d) × (d ≤ c) × (passes cs d ≡ true)
   unfolding NoneAt
   first-upto cs c e =
       ⊎_elim
@@ -108,9 +114,11 @@ module _ (test : Column → Bool) (none : test noColumn ≡ false) where
   pub first-inside : (cs : List Column) (c : ℕ) → firstColumn test 0 cs ≡ At c → c < length cs
   first-inside cs c e =
       either (ltb c (length cs))
-      (λ t. ltb-true c (length cs) t)
-      (λ t. absurd (true≢false (sym (first-passes cs c e).0 ∙ ap test (get_or-eq_default cs noColumn {n = c} (ltb-false c (length cs) t)) ∙ none)))
+      (ltb-true c (length cs))
+      (λ t. let past = get_or-eq_default cs noColumn {n = c} (ltb-false c (length cs) t) in
+      absurd (true≢false (sym (first-passes cs c e).0 ∙ ap test past ∙ none)))
 
 -- two tests that say the same of every column find the same
-pub first-same : (f g : Column → Bool) → ((x : Column) → f x ≡ g x) → (i : ℕ) (cs : List Column) → firstColumn f i cs ≡ firstColumn g i cs
+pub first-same : (f g : Column → Bool) → ((x : Column) → f x ≡ g x)
+    → (i : ℕ) (cs : List Column) → firstColumn f i cs ≡ firstColumn g i cs
 first-same f g h i cs = λ k. firstColumn (λ (x : Column). h x k) i cs

@@ -42,7 +42,7 @@ lowercase b = cond (leb 65 b && leb b 90) (b + 32) b
 abbrev pub alike : ℕ → ℕ → Bool
 alike a b = eqb (lowercase a) (lowercase b)
 
--- whether a name of the header is the one sought: with two quotes as one it has as many bytes, each alike to the one in its place
+-- whether a name of the header is the one sought: with two quotes as one, as many bytes, each alike to the one in its place
 abbrev pub sameName : List ℕ → List ℕ → Bool
 sameName part sought = pointwise alike (undoubled part) sought
 
