@@ -15,8 +15,9 @@ the layout are read by layout_cases.py, which is such a reader too.
 A case is a header, a data area, a second area (often empty), a choice of columns, a heap setting, and steps. The entry
 gets the header and the first area. The opening and each step say which of the areas they are lent, and how many bytes
 of it at most. A step may also give the cursor any place and count, or any columns. A row read says how long its list
-is; the list is full of one cell that no table has, and is shown after the step. A read or seek is done by value or over
-a lent cursor: which of the two is left to chance, and the reader below knows no difference.
+is; the list is full of one cell that no table has, and is shown after the step. A cell read or seek is done by value or
+over a lent cursor: which of the two is left to chance, and the reader below knows no difference. A row read is done over
+a lent one.
 """
 import collections
 import os

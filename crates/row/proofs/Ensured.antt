@@ -38,7 +38,6 @@ use Rattle.row.specs.contracts.seek_to_row as lent-seek-to-row
 use Rattle.row.specs.contracts.owners.next as own-next
 use Rattle.row.specs.contracts.owners.seek_to_row as own-seek-to-row
 use Rattle.row.specs.contracts.owners.row_cell as own-row-cell
-use Rattle.row.specs.contracts.owners.next_row_cell as own-next-row-cell
 
 module _ {M : Type 1} {𝓤 : Ura M} (𝓛 : Logic 𝓤) (mem : Memory → SProp 𝓤) (run : Routine → Fun 𝓤) (κ κ' κ'' : Lft) (l : BinTable) (area : Bor (List ℕ)) where
   -- ---- the entry and opening
@@ -97,11 +96,6 @@ module _ {M : Type 1} {𝓤 : Ura M} (𝓛 : Logic 𝓤) (mem : Memory → SProp
           → (own-row-cell.clauses 𝓛 mem run (κ, tt) (l, (area, (cursor, (filler, (n, (k, tt))))))).ensures tt r (l, (area, (cursor, (filler, (n, (k, tt))))))
           ≡ sep 𝓤 (fact 𝓤 (RowEnsures l area.now cursor (ownList filler n) lists r.stepped)) (fact 𝓤 (r.cell ≡ get_or lists k filler))
       own-row-ensures r = refl
-
-      pub own-lent-row-ensures : (r : RowCell)
-          → (own-next-row-cell.clauses 𝓛 mem run (κ, tt) (l, (area, (cursor, (filler, (n, (k, tt))))))).ensures tt r (l, (area, (cursor, (filler, (n, (k, tt))))))
-          ≡ sep 𝓤 (fact 𝓤 (RowEnsures l area.now cursor (ownList filler n) lists r.stepped)) (fact 𝓤 (r.cell ≡ get_or lists k filler))
-      own-lent-row-ensures r = refl
 
   -- ---- the steps over a lent cursor
 

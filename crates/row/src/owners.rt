@@ -51,8 +51,8 @@ pub fn seek_to_row(layout: BinTable, area: &[u8], cursor: TableData, row: usize)
     }
 }
 
-// The row read, with a list of its own that is lent for it: n cells, 512 at most, all of them `filler` before. Cell
-// k of it afterwards, `filler` if there is none.
+// The row read, with a cursor and a list of its own that are lent for it: n cells, 512 at most, all of them `filler`
+// before. Cell k of it afterwards, `filler` if there is none.
 pub fn row_cell(
     layout: BinTable,
     area: &[u8],
@@ -65,29 +65,8 @@ pub fn row_cell(
         ≡ ownRead layout area.now cursor filler n }
     ensures cell { result.cell ≡ get_or (ownRead layout area.now cursor filler n).list k filler }
 {
-    // One cell more than is lent at most, so that there is one that is not stored to.
-    let mut list = [filler; 513];
-    let len = at_most(n, LIST_LIMIT);
-    let stepped = super::read_row(layout, area, cursor, &mut list[..len]);
-    let i = at_most(k, LIST_LIMIT);
-    let cell = list[i];
-    RowCell { stepped, cell }
-}
-
-// The row read over a lent cursor, with a cursor and a list of its own.
-pub fn next_row_cell(
-    layout: BinTable,
-    area: &[u8],
-    cursor: TableData,
-    filler: Cell,
-    n: usize,
-    k: usize,
-) -> RowCell
-    ensures step { resultOf result.stepped (ownRead layout area.now cursor filler n).list
-        ≡ ownRead layout area.now cursor filler n }
-    ensures cell { result.cell ≡ get_or (ownRead layout area.now cursor filler n).list k filler }
-{
     let mut own = cursor;
+    // One cell more than is lent at most, so that there is one that is not stored to.
     let mut list = [filler; 513];
     let len = at_most(n, LIST_LIMIT);
     let answer = super::next_row(&mut own, layout, area, &mut list[..len]);
