@@ -7,23 +7,23 @@ use native.Mathlib.Omega.{arith}
 use native.Mathlib.Numerals.{add-one}
 use lib.Dec.{ltb}
 use Rattle.ascii.specs.Text.{decimal}
-use Rattle.ascii.proofs.Cases.{by-test}
-use Rattle.ascii.proofs.Decimal.{ten-next}
-use Rattle.ascii.specs.Number.{decimalIn}
+use Rattle.ascii.proofs.Cases.{by_test}
+use Rattle.ascii.proofs.Decimal.{ten_next}
+use Rattle.ascii.specs.Number.{decimal_in}
 
 -- one digit more
-last-digit : (m b : ℕ) (s : List ℕ) → decimal m (s ++ (b ∷ [])) ≡ decimal m s * 10 + (b - 48)
+last_digit : (m b : ℕ) (s : List ℕ) → decimal m (s ++ (b ∷ [])) ≡ decimal m s * 10 + (b - 48)
 unfolding decimal
-last-digit m b [] = refl
-last-digit m b (a ∷ s) = last-digit (m * 10 + (a - 48)) b s
+last_digit m b [] = refl
+last_digit m b (a ∷ s) = last_digit (m * 10 + (a - 48)) b s
 
-pub decimal-back : (k n : ℕ) → n < 10 ^ k → decimal 0 (decimalIn k n) ≡ n
-unfolding decimal decimalIn
-decimal-back zero n h = omega (arith, h)
-decimal-back (suc k) n h =
-    by-test (λ (s : List ℕ). decimal 0 s ≡ n) (ltb n 10)
+pub decimal_back : (k n : ℕ) → n < 10 ^ k → decimal 0 (decimal_in k n) ≡ n
+unfolding decimal decimal_in
+decimal_back zero n h = omega (arith, h)
+decimal_back (suc k) n h =
+    by_test (λ (s : List ℕ). decimal 0 s ≡ n) (ltb n 10)
     (λ t. omega arith)
     (λ t.
-    let e : 10 ^ suc k ≡ 10 ^ k * 10 = rw (← add-one k) (ten-next k) in
+    let e : 10 ^ suc k ≡ 10 ^ k * 10 = rw (← add-one k) (ten_next k) in
     let q : n / 10 < 10 ^ k = omega (arith, h, e) in
-    last-digit 0 (48 + n % 10) (decimalIn k (n / 10)) ∙ rw (decimal-back k (n / 10) q) (omega arith))
+    last_digit 0 (48 + n % 10) (decimal_in k (n / 10)) ∙ rw (decimal_back k (n / 10) q) (omega arith))

@@ -9,28 +9,28 @@ use lib.ListN.{length, take, length-append, length-replicate, take-append-drop}
 use borrow.Author.Tests.{le-leb, lt-leb}
 use Rattle.ascii.specs.declared.Written.{Written}
 use Rattle.ascii.specs.declared.Written.TheVariants.{To, NoRoom}
-use Rattle.ascii.specs.Buffer.{putIn, written, writtenTo, placeAfter}
-use Rattle.ascii.specs.Number.{decimalText, rightAligned}
-use Rattle.ascii.proofs.Lengths.{decimal-length, put-put, take_put}
+use Rattle.ascii.specs.Buffer.{put_in, written, written_to, place_after}
+use Rattle.ascii.specs.Number.{decimal_text, right_aligned}
+use Rattle.ascii.proofs.Lengths.{decimal_length, put_put, take_put}
 
 -- what a writer ensures where there is room: the place after the text, and the buffer with it
 abbrev pub Put : List ℕ → ℕ → List ℕ → ℕ → List ℕ → Type 0
-Put o at t p o' = (p ≡ at + length t) × (o' ≡ putIn o at t)
+Put o at t p o' = (p ≡ at + length t) × (o' ≡ put_in o at t)
 
 -- and where there may be none
 abbrev pub Shown : List ℕ → ℕ → List ℕ → Written → List ℕ → Type 0
-Shown o at t w o' = (w ≡ writtenTo o at t) × (o' ≡ written o at t)
+Shown o at t w o' = (w ≡ written_to o at t) × (o' ≡ written o at t)
 
 -- what a writer ensures that gives a place in both cases
 abbrev pub Tried : List ℕ → ℕ → List ℕ → ℕ → List ℕ → Type 0
-Tried o at t p o' = (p ≡ placeAfter o at t) × (o' ≡ written o at t)
+Tried o at t p o' = (p ≡ place_after o at t) × (o' ≡ written o at t)
 
 -- a text and the one after it, which ends within the buffer
 pub joined : (o : List ℕ) (at : ℕ) (s t : List ℕ) {p : ℕ} {o' : List ℕ} {q : ℕ} {o'' : List ℕ} → q ≤ length o
     → Put o at s p o' → Put o' p t q o'' → Put o at (s ++ t) q o''
 joined o at s t {p} {o'} {q} {o''} h (e, f) (g, i) = (
   simp length-append (omega (arith, e, g)),
-  i ∙ ap (λ (n : ℕ). putIn o' n t) e ∙ ap (λ (l : List ℕ). putIn l (at + length s) t) f ∙ put-put o at s t (omega (arith, e, g, h)),
+  i ∙ ap (λ (n : ℕ). put_in o' n t) e ∙ ap (λ (l : List ℕ). put_in l (at + length s) t) f ∙ put_put o at s t (omega (arith, e, g, h)),
 )
 
 module _ (o : List ℕ) (at : ℕ) {s t : List ℕ} (e : s ≡ t) where
@@ -38,37 +38,37 @@ module _ (o : List ℕ) (at : ℕ) {s t : List ℕ} (e : s ≡ t) where
   pub retold : {p : ℕ} {o' : List ℕ} → Put o at s p o' → Put o at t p o'
   retold {p} {o'} h = subst (λ (l : List ℕ). Put o at l p o') e h
 
-  pub tried-as : {p : ℕ} {o' : List ℕ} → Tried o at s p o' → Tried o at t p o'
-  tried-as {p} {o'} h = subst (λ (l : List ℕ). Tried o at l p o') e h
+  pub tried_as : {p : ℕ} {o' : List ℕ} → Tried o at s p o' → Tried o at t p o'
+  tried_as {p} {o'} h = subst (λ (l : List ℕ). Tried o at l p o') e h
 
   pub shown : {w : Written} {o' : List ℕ} → Shown o at s w o' → Shown o at t w o'
   shown {w} {o'} h = subst (λ (l : List ℕ). Shown o at l w o') e h
 
 module _ (o : List ℕ) (at : ℕ) (t : List ℕ) where
   pub room : {p : ℕ} {o' : List ℕ} → at + length t ≤ length o → Put o at t p o' → Shown o at t (To p) o'
-  unfolding written writtenTo
+  unfolding written written_to
   room {p} {o'} h (e, f) = rw (le-leb (at + length t) (length o) h) (ap To e, f)
 
-  pub no-room : length o < at + length t → Shown o at t NoRoom o
-  unfolding written writtenTo
-  no-room h = rw (lt-leb (at + length t) (length o) h) (refl, refl)
+  pub no_room : length o < at + length t → Shown o at t NoRoom o
+  unfolding written written_to
+  no_room h = rw (lt-leb (at + length t) (length o) h) (refl, refl)
 
 module _ (o : List ℕ) (at : ℕ) (t : List ℕ) where
   pub fitted : {p : ℕ} {o' : List ℕ} → at + length t ≤ length o → Tried o at t p o' → Put o at t p o'
-  unfolding placeAfter written
+  unfolding place_after written
   fitted {p} {o'} h e = rw (le-leb (at + length t) (length o) h) at e
 
   pub tried : {p : ℕ} {o' : List ℕ} → at + length t ≤ length o → Put o at t p o' → Tried o at t p o'
-  unfolding placeAfter written
+  unfolding place_after written
   tried {p} {o'} h e = rw (le-leb (at + length t) (length o) h) e
 
-  pub not-tried : length o < at + length t → Tried o at t at o
-  unfolding placeAfter written
-  not-tried h = rw (lt-leb (at + length t) (length o) h) (refl, refl)
+  pub not_tried : length o < at + length t → Tried o at t at o
+  unfolding place_after written
+  not_tried h = rw (lt-leb (at + length t) (length o) h) (refl, refl)
 
 -- a number has 20 digits at most
-pub number-fitted : (o : List ℕ) (at n : ℕ) {p : ℕ} {o' : List ℕ} → at + 20 ≤ length o → Tried o at (decimalText n) p o' → Put o at (decimalText n) p o'
-number-fitted o at n h e = fitted o at (decimalText n) (omega (arith, decimal-length n)) e
+pub number_fitted : (o : List ℕ) (at n : ℕ) {p : ℕ} {o' : List ℕ} → at + 20 ≤ length o → Tried o at (decimal_text n) p o' → Put o at (decimal_text n) p o'
+number_fitted o at n h e = fitted o at (decimal_text n) (omega (arith, decimal_length n)) e
 
 -- from the front of an array on, what was written is the text
 pub front : (o t : List ℕ) {p : ℕ} {o' : List ℕ} → p ≤ length o → Put o 0 t p o' → take p o' ≡ t
@@ -79,17 +79,17 @@ pub spaced : (w t : List ℕ) (b : ℕ) → (w ++ (b ∷ [])) ++ t ≡ w ++ (b �
 spaced w t b = append_assoc w (b ∷ []) t
 
 module _ (n b : ℕ) where
-  pub number-room : length (decimalText n ++ (b ∷ [])) ≤ 21
-  number-room = simp length-append (omega (arith, decimal-length n))
+  pub number_room : length (decimal_text n ++ (b ∷ [])) ≤ 21
+  number_room = simp length-append (omega (arith, decimal_length n))
 
-  pub count_room : (w : List ℕ) → length (w ++ (32 ∷ (decimalText n ++ (b ∷ [])))) ≤ length w + 22
-  count_room w = simp length-append (omega (arith, decimal-length n))
+  pub count_room : (w : List ℕ) → length (w ++ (32 ∷ (decimal_text n ++ (b ∷ [])))) ≤ length w + 22
+  count_room w = simp length-append (omega (arith, decimal_length n))
 
 -- a text with the spaces in front of it
-pub right-length : (width : ℕ) (t : List ℕ) → length (rightAligned width t) ≡ (width - length t) + length t
-right-length width t = simp (length-append, length-replicate {A = ℕ} (width - length t) 32)
+pub right_length : (width : ℕ) (t : List ℕ) → length (right_aligned width t) ≡ (width - length t) + length t
+right_length width t = simp (length-append, length-replicate {A = ℕ} (width - length t) 32)
 
 -- no text leaves the place and the buffer as they were
-pub nothing-put : (o : List ℕ) (at : ℕ) → Put o at [] at o
-unfolding putIn
-nothing-put o at = (omega arith, rw add-zero (sym (take-append-drop at o)))
+pub nothing_put : (o : List ℕ) (at : ℕ) → Put o at [] at o
+unfolding put_in
+nothing_put o at = (omega arith, rw add-zero (sym (take-append-drop at o)))

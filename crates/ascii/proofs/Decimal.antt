@@ -18,24 +18,24 @@ unfolding decimal
 snoc n [] x = refl
 snoc n (b ∷ bs) x = snoc (n * 10 + (b - 48)) bs x
 
-pub decimal-next : (s : List ℕ) (i : ℕ) → i < length s → decimal 0 (take (i + 1) s) ≡ decimal 0 (take i s) * 10 + (get_or s i 0 - 48)
-decimal-next s i h = rw (add-one, take-suc s i 0 h) (snoc 0 (take i s) (get_or s i 0))
+pub decimal_next : (s : List ℕ) (i : ℕ) → i < length s → decimal 0 (take (i + 1) s) ≡ decimal 0 (take i s) * 10 + (get_or s i 0 - 48)
+decimal_next s i h = rw (add-one, take-suc s i 0 h) (snoc 0 (take i s) (get_or s i 0))
 
-pub ten-next : (i : ℕ) → 10 ^ (i + 1) ≡ 10 ^ i * 10
-ten-next i = rw add-one (pow-suc 10 i)
+pub ten_next : (i : ℕ) → 10 ^ (i + 1) ≡ 10 ^ i * 10
+ten_next i = rw add-one (pow-suc 10 i)
 
-pub ten-le : {i : ℕ} (j : ℕ) → i ≤ j → 10 ^ i ≤ 10 ^ j
-ten-le j h = pow-le-pow_right (lit< tt) h
+pub ten_le : {i : ℕ} (j : ℕ) → i ≤ j → 10 ^ i ≤ 10 ^ j
+ten_le j h = pow-le-pow_right (lit< tt) h
 
 -- a digit is 48 to 57
-pub digit-range : (b : ℕ) → digit b ≡ true → (48 ≤ b) × (b ≤ 57)
-digit-range b e = let h = both (leb 48 b) (leb b 57) e in (leb-true 48 b h.0, leb-true b 57 h.1)
+pub digit_range : (b : ℕ) → digit b ≡ true → (48 ≤ b) × (b ≤ 57)
+digit_range b e = let h = both (leb 48 b) (leb b 57) e in (leb-true 48 b h.0, leb-true b 57 h.1)
 
-pub digit-low : (b : ℕ) → b < 48 → digit b ≡ false
-digit-low b h = rw (lt-leb 48 b h)
+pub digit_low : (b : ℕ) → b < 48 → digit b ≡ false
+digit_low b h = rw (lt-leb 48 b h)
 
-pub digit-high : (b : ℕ) → 57 < b → digit b ≡ false
-digit-high b h = rw (lt-leb b 57 h) (and-false (leb 48 b))
+pub digit_high : (b : ℕ) → 57 < b → digit b ≡ false
+digit_high b h = rw (lt-leb b 57 h) (and-false (leb 48 b))
 
-pub digit-yes : (b : ℕ) → 48 ≤ b → b ≤ 57 → digit b ≡ true
-digit-yes b h l = rw (le-leb 48 b h, le-leb b 57 l)
+pub digit_yes : (b : ℕ) → 48 ≤ b → b ≤ 57 → digit b ≡ true
+digit_yes b h l = rw (le-leb 48 b h, le-leb b 57 l)

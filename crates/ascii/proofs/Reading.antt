@@ -13,107 +13,107 @@ use lib.Dec.{eqb, ltb, eqb-zero-suc, eqb-suc-suc}
 use borrow.Author.Tests.{eq-eqb, lt-ltb, le-ltb, ltb-true, ltb-false}
 use Rattle.ascii.specs.Text.{front, digit, decimal}
 use Rattle.ascii.proofs.Cases.{either}
-use Rattle.ascii.proofs.Front.{front-le, front-passes}
-use Rattle.ascii.proofs.Decimal.{decimal-next, ten-next, ten-le, digit-range}
+use Rattle.ascii.proofs.Front.{front_le, front_passes}
+use Rattle.ascii.proofs.Decimal.{decimal_next, ten_next, ten_le, digit_range}
 use Rattle.ascii.specs.declared.Found.{Found}
 use Rattle.ascii.specs.declared.Found.TheVariants.{At, Nothing}
 use Rattle.ascii.specs.Number.{number}
 
 -- a number with one digit more, where it is still below 2 ^ 64
-abbrev pub digitAfter : ℕ → ℕ → Found
-digitAfter n b = cond (digit b && ltb (n * 10 + (b - 48)) (2 ^ 64)) (At (n * 10 + (b - 48))) Nothing
+abbrev pub digit_after : ℕ → ℕ → Found
+digit_after n b = cond (digit b && ltb (n * 10 + (b - 48)) (2 ^ 64)) (At (n * 10 + (b - 48))) Nothing
 
 abbrev onward : (ℕ → Found) → Found → Found
 onward f (At n) = f n
 onward f Nothing = Nothing
 
 -- the number n with some digits more, taken one by one
-unfoldable pub numberFrom : ℕ → List ℕ → Found
-numberFrom n [] = At n
-numberFrom n (b ∷ bs) = onward (λ (m : ℕ). numberFrom m bs) (digitAfter n b)
+unfoldable pub number_from : ℕ → List ℕ → Found
+number_from n [] = At n
+number_from n (b ∷ bs) = onward (λ (m : ℕ). number_from m bs) (digit_after n b)
 
 -- a number only grows by its digits
-decimal-grows : (n : ℕ) (s : List ℕ) → n ≤ decimal n s
+decimal_grows : (n : ℕ) (s : List ℕ) → n ≤ decimal n s
 unfolding decimal
-decimal-grows n [] = omega arith
-decimal-grows n (b ∷ bs) = omega (arith, decimal-grows (n * 10 + (b - 48)) bs)
+decimal_grows n [] = omega arith
+decimal_grows n (b ∷ bs) = omega (arith, decimal_grows (n * 10 + (b - 48)) bs)
 
-from_is : (n : ℕ) (s : List ℕ) → n < 2 ^ 64 → numberFrom n s ≡ cond (eqb (front digit s) (length s) && ltb (decimal n s) (2 ^ 64)) (At (decimal n s)) Nothing
-unfolding numberFrom front decimal
+from_is : (n : ℕ) (s : List ℕ) → n < 2 ^ 64 → number_from n s ≡ cond (eqb (front digit s) (length s) && ltb (decimal n s) (2 ^ 64)) (At (decimal n s)) Nothing
+unfolding number_from front decimal
 from_is n [] h = rw (lt-ltb n (2 ^ 64) h)
 from_is n (b ∷ bs) h =
     let m = n * 10 + (b - 48) in
     either (digit b)
     (λ d. either (ltb m (2 ^ 64))
     (λ t. rw (d, t, eqb-suc-suc (front digit bs) (length bs)) (from_is m bs (ltb-true m (2 ^ 64) t)))
-    (λ t. rw (d, t, le-ltb (decimal m bs) (2 ^ 64) (omega (arith, decimal-grows m bs, ltb-false m (2 ^ 64) t)), and-false (eqb (suc (front digit bs)) (suc (length bs))))))
+    (λ t. rw (d, t, le-ltb (decimal m bs) (2 ^ 64) (omega (arith, decimal_grows m bs, ltb-false m (2 ^ 64) t)), and-false (eqb (suc (front digit bs)) (suc (length bs))))))
     (λ d. rw (d, eqb-zero-suc (length bs)))
 
-pub number-none : (s : List ℕ) → length s ≡ 0 → number s ≡ Nothing
+pub number_none : (s : List ℕ) → length s ≡ 0 → number s ≡ Nothing
 unfolding number
-number-none s e = rw e
+number_none s e = rw e
 
-pub number-is : (s : List ℕ) → (length s ≡ 0 → ⊥) → numberFrom 0 s ≡ number s
+pub number_is : (s : List ℕ) → (length s ≡ 0 → ⊥) → number_from 0 s ≡ number s
 unfolding number
-number-is s h = rw (lt-ltb 0 (length s) (omega arith)) (from_is 0 s (omega arith))
+number_is s h = rw (lt-ltb 0 (length s) (omega arith)) (from_is 0 s (omega arith))
 
 -- at a place of the text
 module _ (n : ℕ) (s : List ℕ) (i : ℕ) where
-  pub from_next : (m : ℕ) → i < length s → digitAfter n (get_or s i 0) ≡ At m → numberFrom n (drop i s) ≡ numberFrom m (drop (i + 1) s)
-  unfolding numberFrom
+  pub from_next : (m : ℕ) → i < length s → digit_after n (get_or s i 0) ≡ At m → number_from n (drop i s) ≡ number_from m (drop (i + 1) s)
+  unfolding number_from
   from_next m h e = rw (add-one i, drop-cons s i 0 h, e)
 
-  pub from-stop : i < length s → digitAfter n (get_or s i 0) ≡ Nothing → numberFrom n (drop i s) ≡ Nothing
-  unfolding numberFrom
-  from-stop h e = rw (drop-cons s i 0 h, e)
+  pub from_stop : i < length s → digit_after n (get_or s i 0) ≡ Nothing → number_from n (drop i s) ≡ Nothing
+  unfolding number_from
+  from_stop h e = rw (drop-cons s i 0 h, e)
 
-  pub from_end : length s ≤ i → numberFrom n (drop i s) ≡ At n
-  unfolding numberFrom
+  pub from_end : length s ≤ i → number_from n (drop i s) ≡ At n
+  unfolding number_from
   from_end h = rw (drop_of_length-le s h)
 
 -- ---- so many digits at the front of a text
 
-front-take : (p : ℕ → Bool) (s : List ℕ) (n : ℕ) → n ≤ front p s → front p (take n s) ≡ n
+front_take : (p : ℕ → Bool) (s : List ℕ) (n : ℕ) → n ≤ front p s → front p (take n s) ≡ n
 unfolding front
-front-take p s zero h = refl
-front-take p [] (suc n) h = absurd (not-suc-le-zero h)
-front-take p (b ∷ bs) (suc n) h =
-    either (p b) (λ e. rw e (ap suc (front-take p bs n (le_of_suc-le-suc (rw e at h))))) (λ e. absurd (not-suc-le-zero (rw e at h)))
+front_take p s zero h = refl
+front_take p [] (suc n) h = absurd (not-suc-le-zero h)
+front_take p (b ∷ bs) (suc n) h =
+    either (p b) (λ e. rw e (ap suc (front_take p bs n (le_of_suc-le-suc (rw e at h))))) (λ e. absurd (not-suc-le-zero (rw e at h)))
 
 -- n digits are below the n-th power of ten
-pub decimal-below : (s : List ℕ) (n : ℕ) → n ≤ front digit s → decimal 0 (take n s) < 10 ^ n
+pub decimal_below : (s : List ℕ) (n : ℕ) → n ≤ front digit s → decimal 0 (take n s) < 10 ^ n
 unfolding decimal
-decimal-below s zero h = omega arith
-decimal-below s (suc n) h =
+decimal_below s zero h = omega arith
+decimal_below s (suc n) h =
     let b = get_or s n 0 in
-    let e : decimal 0 (take (suc n) s) ≡ decimal 0 (take n s) * 10 + (b - 48) = rw (← add-one n) (decimal-next s n (omega (arith, front-le digit s))) in
-    let t : 10 ^ suc n ≡ 10 ^ n * 10 = rw (← add-one n) (ten-next n) in
-    let r = digit-range b (front-passes digit s n (omega arith)) in
-    omega (arith, e, t, r, decimal-below s n (omega arith))
+    let e : decimal 0 (take (suc n) s) ≡ decimal 0 (take n s) * 10 + (b - 48) = rw (← add-one n) (decimal_next s n (omega (arith, front_le digit s))) in
+    let t : 10 ^ suc n ≡ 10 ^ n * 10 = rw (← add-one n) (ten_next n) in
+    let r = digit_range b (front_passes digit s n (omega arith)) in
+    omega (arith, e, t, r, decimal_below s n (omega arith))
 
 -- they are a number, where it is below 2 ^ 64
-pub digits-any : (s : List ℕ) (n : ℕ) → (n ≡ 0 → ⊥) → n ≤ front digit s
+pub digits_any : (s : List ℕ) (n : ℕ) → (n ≡ 0 → ⊥) → n ≤ front digit s
     → number (take n s) ≡ cond (ltb (decimal 0 (take n s)) (2 ^ 64)) (At (decimal 0 (take n s))) Nothing
 unfolding number
-digits-any s n some h =
-    let l : length (take n s) ≡ n = length-take-le n s (omega (arith, front-le digit s)) in
-    rw (l, front-take digit s n h, lt-ltb 0 n (omega arith), eq-eqb n n refl)
+digits_any s n some h =
+    let l : length (take n s) ≡ n = length-take-le n s (omega (arith, front_le digit s)) in
+    rw (l, front_take digit s n h, lt-ltb 0 n (omega arith), eq-eqb n n refl)
 
 -- so 18 of them are
-pub digits-number : (s : List ℕ) (n : ℕ) → (n ≡ 0 → ⊥) → n ≤ 18 → n ≤ front digit s → number (take n s) ≡ At (decimal 0 (take n s))
-digits-number s n some few h =
-    let d : decimal 0 (take n s) < 2 ^ 64 = omega (arith, decimal-below s n h, ten-le 18 few) in
-    rw (lt-ltb (decimal 0 (take n s)) (2 ^ 64) d) at (digits-any s n some h)
+pub digits_number : (s : List ℕ) (n : ℕ) → (n ≡ 0 → ⊥) → n ≤ 18 → n ≤ front digit s → number (take n s) ≡ At (decimal 0 (take n s))
+digits_number s n some few h =
+    let d : decimal 0 (take n s) < 2 ^ 64 = omega (arith, decimal_below s n h, ten_le 18 few) in
+    rw (lt-ltb (decimal 0 (take n s)) (2 ^ 64) d) at (digits_any s n some h)
 
 -- what was found of a number that may be too large
-pub found-is : (d v : ℕ) → At v ≡ cond (ltb d (2 ^ 64)) (At d) Nothing → v ≡ d
-found-is d v e =
+pub found_is : (d v : ℕ) → At v ≡ cond (ltb d (2 ^ 64)) (At d) Nothing → v ≡ d
+found_is d v e =
     either (ltb d (2 ^ 64))
     (λ t. let z : At v ≡ At d = rw t at e in cc)
     (λ t. let y : At v ≡ Nothing = rw t at e in let z : ◌≡◌ {A = ℕ} 0 1 = cc in absurd (omega arith))
 
-pub none-large : (d : ℕ) → Nothing ≡ cond (ltb d (2 ^ 64)) (At d) Nothing → 2 ^ 64 ≤ d
-none-large d e =
+pub none_large : (d : ℕ) → Nothing ≡ cond (ltb d (2 ^ 64)) (At d) Nothing → 2 ^ 64 ≤ d
+none_large d e =
     either (ltb d (2 ^ 64))
     (λ t. let y : Nothing ≡ At d = rw t at e in let z : ◌≡◌ {A = ℕ} 0 1 = cc in absurd (omega arith))
     (λ t. ltb-false d (2 ^ 64) t)

@@ -13,31 +13,31 @@ use Rattle.ascii.specs.Text.{front, space, spaces, trim, same}
 use Rattle.ascii.proofs.Cases.{either}
 
 -- a list has only spaces where they are as many as its bytes
-pub spaces-count : (s : List ℕ) → spaces s ≡ eqb (front space s) (length s)
+pub spaces_count : (s : List ℕ) → spaces s ≡ eqb (front space s) (length s)
 unfolding spaces front
-spaces-count [] = refl
-spaces-count (b ∷ bs) =
-    either (space b) (λ e. rw (e, eqb-suc-suc (front space bs) (length bs)) (spaces-count bs)) (λ e. rw (e, eqb-zero-suc (length bs)))
+spaces_count [] = refl
+spaces_count (b ∷ bs) =
+    either (space b) (λ e. rw (e, eqb-suc-suc (front space bs) (length bs)) (spaces_count bs)) (λ e. rw (e, eqb-zero-suc (length bs)))
 
 -- so are the spaces that END asks after its letters
-pub spaces-same : (s : List ℕ) → same s (replicate (length s) 32) ≡ spaces s
+pub spaces_same : (s : List ℕ) → same s (replicate (length s) 32) ≡ spaces s
 unfolding spaces same
-spaces-same [] = refl
-spaces-same (b ∷ bs) = rw (spaces-same bs)
+spaces_same [] = refl
+spaces_same (b ∷ bs) = rw (spaces_same bs)
 
-pub spaces-none : (s : List ℕ) (n : ℕ) → length s ≤ n → spaces (drop n s) ≡ true
+pub spaces_none : (s : List ℕ) (n : ℕ) → length s ≤ n → spaces (drop n s) ≡ true
 unfolding spaces
-spaces-none s n h = rw (drop_of_length-le s h)
+spaces_none s n h = rw (drop_of_length-le s h)
 
 -- a space before spaces
-pub spaces-more : (s : List ℕ) (i : ℕ) → i < length s → get_or s i 0 ≡ 32 → spaces (drop (suc i) s) ≡ true → spaces (drop i s) ≡ true
+pub spaces_more : (s : List ℕ) (i : ℕ) → i < length s → get_or s i 0 ≡ 32 → spaces (drop (suc i) s) ≡ true → spaces (drop i s) ≡ true
 unfolding spaces
-spaces-more s i h e t = rw (drop-cons s i 0 h, e, t)
+spaces_more s i h e t = rw (drop-cons s i 0 h, e, t)
 
-pub trimmed-none : (s : List ℕ) → spaces s ≡ true → length (trim s) ≡ 0
+pub trimmed_none : (s : List ℕ) → spaces s ≡ true → length (trim s) ≡ 0
 unfolding trim
-trimmed-none [] t = refl
-trimmed-none (b ∷ bs) t = rw t
+trimmed_none [] t = refl
+trimmed_none (b ∷ bs) t = rw t
 
 -- another byte among them
 other : (s : List ℕ) (i : ℕ) → i < length s → space (get_or s i 0) ≡ false → spaces s ≡ false
@@ -46,24 +46,24 @@ other [] i h e = absurd (not-suc-le-zero h)
 other (b ∷ bs) zero h e = rw e
 other (b ∷ bs) (suc i) h e = either (space b) (λ q. rw (q, other bs i (le_of_suc-le-suc h) e)) (λ q. rw q)
 
-pub trimmed-at : (s : List ℕ) (i : ℕ) → i < length s → space (get_or s i 0) ≡ false → spaces (drop (suc i) s) ≡ true → length (trim s) ≡ suc i
+pub trimmed_at : (s : List ℕ) (i : ℕ) → i < length s → space (get_or s i 0) ≡ false → spaces (drop (suc i) s) ≡ true → length (trim s) ≡ suc i
 unfolding trim
-trimmed-at [] i h e t = absurd (not-suc-le-zero h)
-trimmed-at (b ∷ bs) zero h e t = rw (other (b ∷ bs) zero h e, trimmed-none bs t)
-trimmed-at (b ∷ bs) (suc i) h e t = rw (other (b ∷ bs) (suc i) h e, trimmed-at bs i (le_of_suc-le-suc h) e t)
+trimmed_at [] i h e t = absurd (not-suc-le-zero h)
+trimmed_at (b ∷ bs) zero h e t = rw (other (b ∷ bs) zero h e, trimmed_none bs t)
+trimmed_at (b ∷ bs) (suc i) h e t = rw (other (b ∷ bs) (suc i) h e, trimmed_at bs i (le_of_suc-le-suc h) e t)
 
-pub trimmed-le : (s : List ℕ) → length (trim s) ≤ length s
+pub trimmed_le : (s : List ℕ) → length (trim s) ≤ length s
 unfolding trim
-trimmed-le [] = omega arith
-trimmed-le (b ∷ bs) = either (spaces (b ∷ bs)) (λ t. rw t (omega arith)) (λ t. rw t (omega (arith, trimmed-le bs)))
+trimmed_le [] = omega arith
+trimmed_le (b ∷ bs) = either (spaces (b ∷ bs)) (λ t. rw t (omega arith)) (λ t. rw t (omega (arith, trimmed_le bs)))
 
 -- the front part that is left
-pub trim-take : (s : List ℕ) → take (length (trim s)) s ≡ trim s
+pub trim_take : (s : List ℕ) → take (length (trim s)) s ≡ trim s
 unfolding trim
-trim-take [] = refl
-trim-take (b ∷ bs) = either (spaces (b ∷ bs)) (λ t. rw t) (λ t. rw (t, trim-take bs))
+trim_take [] = refl
+trim_take (b ∷ bs) = either (spaces (b ∷ bs)) (λ t. rw t) (λ t. rw (t, trim_take bs))
 
-pub trim-part : (s : List ℕ) (n : ℕ) → take (length (trim (take n s))) s ≡ trim (take n s)
-trim-part s n =
-    let h : length (trim (take n s)) ≤ n = omega (arith, trimmed-le (take n s), length-take n s) in
-    sym (take-take (length (trim (take n s))) n s h) ∙ trim-take (take n s)
+pub trim_part : (s : List ℕ) (n : ℕ) → take (length (trim (take n s))) s ≡ trim (take n s)
+trim_part s n =
+    let h : length (trim (take n s)) ≤ n = omega (arith, trimmed_le (take n s), length-take n s) in
+    sym (take-take (length (trim (take n s))) n s h) ∙ trim_take (take n s)

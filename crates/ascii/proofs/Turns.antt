@@ -9,7 +9,7 @@ use native.Mathlib.Omega.{arith}
 use lib.ListN.{length, drop, set}
 use lib.Seq.{append_snoc}
 use borrow.Author.Tests.{lt-ltb, le-ltb}
-use Rattle.ascii.specs.Number.{decimalIn}
+use Rattle.ascii.specs.Number.{decimal_in}
 
 -- after a store at j, the list from j on begins with what was stored
 pub stored : (t : List ℕ) (j g : ℕ) → j < length t → drop j (set t j g) ≡ g ∷ drop (suc j) t
@@ -23,28 +23,28 @@ stored (x ∷ xs) (suc j) g h = stored xs j g (le_of_suc-le-suc h)
 abbrev pub Room : ℕ → ℕ → Type 0
 Room i rest = (0 < i) × (rest < 10 ^ i)
 
-pub room-next : (i rest : ℕ) → Room i rest → 10 ≤ rest → Room (i - 1) (rest / 10)
-room-next zero rest h some = absurd (not-suc-le-zero h.0)
-room-next (suc zero) rest h some = absurd (omega arith)
-room-next (suc (suc j)) rest h some = rw sub-one (omega arith, omega (arith, rw pow-suc at h.1))
+pub room_next : (i rest : ℕ) → Room i rest → 10 ≤ rest → Room (i - 1) (rest / 10)
+room_next zero rest h some = absurd (not-suc-le-zero h.0)
+room_next (suc zero) rest h some = absurd (omega arith)
+room_next (suc (suc j)) rest h some = rw sub-one (omega arith, omega (arith, rw pow-suc at h.1))
 
-pub decimal-turn : (i rest g : ℕ) (t : List ℕ) → 0 < i → i ≤ length t → 10 ≤ rest → g ≡ 48 + rest % 10
-    → decimalIn (i - 1) (rest / 10) ++ drop (i - 1) (set t (i - 1) g) ≡ decimalIn i rest ++ drop i t
-unfolding decimalIn
-decimal-turn zero rest g t some h big e = absurd (not-suc-le-zero some)
-decimal-turn (suc j) rest g t some h big e =
-    let todo = decimalIn j (rest / 10) in
-    ap (λ (m : ℕ). decimalIn m (rest / 10) ++ drop m (set t m g)) (sub-one (suc j))
+pub decimal_turn : (i rest g : ℕ) (t : List ℕ) → 0 < i → i ≤ length t → 10 ≤ rest → g ≡ 48 + rest % 10
+    → decimal_in (i - 1) (rest / 10) ++ drop (i - 1) (set t (i - 1) g) ≡ decimal_in i rest ++ drop i t
+unfolding decimal_in
+decimal_turn zero rest g t some h big e = absurd (not-suc-le-zero some)
+decimal_turn (suc j) rest g t some h big e =
+    let todo = decimal_in j (rest / 10) in
+    ap (λ (m : ℕ). decimal_in m (rest / 10) ++ drop m (set t m g)) (sub-one (suc j))
     ∙ ap (λ (l : List ℕ). todo ++ l) (stored t j g h)
     ∙ ap (λ (x : ℕ). todo ++ (x ∷ drop (suc j) t)) e
     ∙ sym (append_snoc todo (48 + rest % 10) (drop (suc j) t))
     ∙ rw (le-ltb rest 10 big)
 
-pub decimal-last : (i rest g : ℕ) (t : List ℕ) → 0 < i → i ≤ length t → rest < 10 → g ≡ 48 + rest
-    → drop (i - 1) (set t (i - 1) g) ≡ decimalIn i rest ++ drop i t
-unfolding decimalIn
-decimal-last zero rest g t some h small e = absurd (not-suc-le-zero some)
-decimal-last (suc j) rest g t some h small e =
+pub decimal_last : (i rest g : ℕ) (t : List ℕ) → 0 < i → i ≤ length t → rest < 10 → g ≡ 48 + rest
+    → drop (i - 1) (set t (i - 1) g) ≡ decimal_in i rest ++ drop i t
+unfolding decimal_in
+decimal_last zero rest g t some h small e = absurd (not-suc-le-zero some)
+decimal_last (suc j) rest g t some h small e =
     ap (λ (m : ℕ). drop m (set t m g)) (sub-one (suc j))
     ∙ stored t j g h
     ∙ ap (λ (x : ℕ). x ∷ drop (suc j) t) e

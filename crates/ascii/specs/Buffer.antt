@@ -5,17 +5,17 @@ use Rattle.ascii.specs.declared.Written.{Written}
 use Rattle.ascii.specs.declared.Written.TheVariants.{To, NoRoom}
 
 -- the buffer with a text from place `at` on, the rest of it as it was
-unfoldable pub putIn : List ℕ → ℕ → List ℕ → List ℕ
-putIn out at text = take at out ++ (text ++ drop (at + length text) out)
+unfoldable pub put_in : List ℕ → ℕ → List ℕ → List ℕ
+put_in out at text = take at out ++ (text ++ drop (at + length text) out)
 
 -- the same where there is room for the text; without room all of the buffer is as it was
 unfoldable pub written : List ℕ → ℕ → List ℕ → List ℕ
-written out at text = cond (leb (at + length text) (length out)) (putIn out at text) out
+written out at text = cond (leb (at + length text) (length out)) (put_in out at text) out
 
 -- the place after the text, where there is room for it
-unfoldable pub writtenTo : List ℕ → ℕ → List ℕ → Written
-writtenTo out at text = cond (leb (at + length text) (length out)) (To (at + length text)) NoRoom
+unfoldable pub written_to : List ℕ → ℕ → List ℕ → Written
+written_to out at text = cond (leb (at + length text) (length out)) (To (at + length text)) NoRoom
 
 -- the same place as a number: without room the place where the text would begin
-unfoldable pub placeAfter : List ℕ → ℕ → List ℕ → ℕ
-placeAfter out at text = cond (leb (at + length text) (length out)) (at + length text) at
+unfoldable pub place_after : List ℕ → ℕ → List ℕ → ℕ
+place_after out at text = cond (leb (at + length text) (length out)) (at + length text) at

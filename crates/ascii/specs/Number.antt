@@ -10,14 +10,14 @@ unfoldable pub number : List ℕ → Found
 number s = cond (ltb 0 (length s) && (eqb (front digit s) (length s) && ltb (decimal 0 s) (2 ^ 64))) (At (decimal 0 s)) Nothing
 
 -- the decimal digits of n, the highest first and no zero in front, for a number of k digits at most
-unfoldable pub decimalIn : ℕ → ℕ → List ℕ
-decimalIn zero n = []
-decimalIn (suc k) n = cond (ltb n 10) ((48 + n) ∷ []) (decimalIn k (n / 10) ++ ((48 + n % 10) ∷ []))
+unfoldable pub decimal_in : ℕ → ℕ → List ℕ
+decimal_in zero n = []
+decimal_in (suc k) n = cond (ltb n 10) ((48 + n) ∷ []) (decimal_in k (n / 10) ++ ((48 + n % 10) ∷ []))
 
 -- every number below 2^64 has 20 digits at most
-abbrev pub decimalText : ℕ → List ℕ
-decimalText n = decimalIn 20 n
+abbrev pub decimal_text : ℕ → List ℕ
+decimal_text n = decimal_in 20 n
 
 -- a text that ends at the end of a field of this width: spaces (32) in front of it; a longer one as it is
-abbrev pub rightAligned : ℕ → List ℕ → List ℕ
-rightAligned width text = replicate (width - length text) 32 ++ text
+abbrev pub right_aligned : ℕ → List ℕ → List ℕ
+right_aligned width text = replicate (width - length text) 32 ++ text

@@ -1,7 +1,7 @@
 // Texts in a lent buffer. A text that there is no room for leaves all of the buffer as it was.
 ghost use Rattle.std.specs.Prelude.{◌≡◌, ◌+◌, ◌-◌, ◌≤◌, leb, length, replicate};
-ghost use Rattle.ascii.specs.Number.{rightAligned};
-ghost use Rattle.ascii.specs.Buffer.{putIn, written, writtenTo, placeAfter};
+ghost use Rattle.ascii.specs.Number.{right_aligned};
+ghost use Rattle.ascii.specs.Buffer.{put_in, written, written_to, place_after};
 
 use super::Written;
 
@@ -19,7 +19,7 @@ fn has_room(len: usize, at: usize, n: usize) -> bool
 fn copy(out: &mut [u8], at: usize, text: &[u8]) -> usize
     requires { at + length text.now ≤ length out.old }
     ensures place { result ≡ at + length text.now }
-    ensures buffer { out.new ≡ putIn out.old at text.now }
+    ensures buffer { out.new ≡ put_in out.old at text.now }
 {
     let mut i: usize = 0;
     while i < text.len() {
@@ -32,7 +32,7 @@ fn copy(out: &mut [u8], at: usize, text: &[u8]) -> usize
 // Spaces that there is room for.
 fn fill_spaces(out: &mut [u8], at: usize, n: usize)
     requires { at + n ≤ length out.old }
-    ensures { out.new ≡ putIn out.old at (replicate n 32) }
+    ensures { out.new ≡ put_in out.old at (replicate n 32) }
 {
     let mut i: usize = 0;
     while i < n {
@@ -43,7 +43,7 @@ fn fill_spaces(out: &mut [u8], at: usize, n: usize)
 
 // Writes a text from a place of the buffer on, the rest of it as it was, and gives the place after it.
 pub fn put(out: &mut [u8], at: usize, text: &[u8]) -> usize
-    ensures place { result ≡ placeAfter out.old at text.now }
+    ensures place { result ≡ place_after out.old at text.now }
     ensures buffer { out.new ≡ written out.old at text.now }
 {
     if has_room(out.len(), at, text.len()) {
@@ -54,7 +54,7 @@ pub fn put(out: &mut [u8], at: usize, text: &[u8]) -> usize
 
 // The same, and tells whether there was room.
 pub fn put_text(out: &mut [u8], at: usize, text: &[u8]) -> Written
-    ensures to { result ≡ writtenTo out.old at text.now }
+    ensures to { result ≡ written_to out.old at text.now }
     ensures buffer { out.new ≡ written out.old at text.now }
 {
     if has_room(out.len(), at, text.len()) {
@@ -76,8 +76,8 @@ fn indent(width: usize, n: usize) -> usize
 // Writes a text that ends at the end of a field of this width, with spaces in front; a longer one as it is. As
 // `put` does.
 pub fn put_right(out: &mut [u8], at: usize, width: usize, text: &[u8]) -> usize
-    ensures place { result ≡ placeAfter out.old at (rightAligned width text.now) }
-    ensures buffer { out.new ≡ written out.old at (rightAligned width text.now) }
+    ensures place { result ≡ place_after out.old at (right_aligned width text.now) }
+    ensures buffer { out.new ≡ written out.old at (right_aligned width text.now) }
 {
     let spaces = indent(width, text.len());
     if !has_room(out.len(), at, spaces) {

@@ -2,8 +2,8 @@
 ghost use Rattle.std.specs.Prelude.{◌≡◌, ◌&&◌, cond, ◌+◌, ◌-◌, ◌*◌, ◌^◌, ◌≤◌, ltb};
 ghost use Rattle.ascii.specs.declared.Found.TheVariants.{At, Nothing};
 ghost use Rattle.ascii.specs.Text.{digit};
-ghost use Rattle.ascii.specs.Number.{number, decimalText};
-ghost use Rattle.ascii.specs.Buffer.{written, placeAfter};
+ghost use Rattle.ascii.specs.Number.{number, decimal_text};
+ghost use Rattle.ascii.specs.Buffer.{written, place_after};
 
 use super::{Found, buffer};
 
@@ -60,8 +60,8 @@ pub fn parse_number(text: &[u8]) -> Found
 // The decimal digits of a number, as `buffer::put` puts a text. They are found from the last to the first, so they
 // are set down from the end of an array of the most that there can be.
 pub fn put_decimal(out: &mut [u8], at: usize, n: u64) -> usize
-    ensures place { result ≡ placeAfter out.old at (decimalText n) }
-    ensures buffer { out.new ≡ written out.old at (decimalText n) }
+    ensures place { result ≡ place_after out.old at (decimal_text n) }
+    ensures buffer { out.new ≡ written out.old at (decimal_text n) }
 {
     let mut digits = [0u8; 20];
     let mut i: usize = 20;

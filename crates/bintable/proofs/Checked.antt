@@ -8,47 +8,47 @@ use lib.Dec.{leb}
 use borrow.Author.Tests.{le-leb, lt-leb}
 use Rattle.card.specs.declared.Value.{Value}
 use Rattle.refusal.specs.Refusal.{Outcome, accepted, refused, before}
-use Rattle.bintable.specs.Checks.{notNegative, sizeIn, within, firstRefusal}
+use Rattle.bintable.specs.Checks.{not_negative, size_in, within, first_refusal}
 
 module _ (low high : ℕ) (v : Value) where
-  pub within-negative : notNegative v ≡ false → false ≡ within low high v
-  within-negative e = rw e
+  pub within_negative : not_negative v ≡ false → false ≡ within low high v
+  within_negative e = rw e
 
-  pub within_low : notNegative v ≡ true → sizeIn v < low → false ≡ within low high v
-  within_low e h = rw (e, lt-leb low (sizeIn v) h)
+  pub within_low : not_negative v ≡ true → size_in v < low → false ≡ within low high v
+  within_low e h = rw (e, lt-leb low (size_in v) h)
 
-  pub within-high : notNegative v ≡ true → low ≤ sizeIn v → leb (sizeIn v) high ≡ within low high v
-  within-high e h = rw (e, le-leb low (sizeIn v) h)
+  pub within_high : not_negative v ≡ true → low ≤ size_in v → leb (size_in v) high ≡ within low high v
+  within_high e h = rw (e, le-leb low (size_in v) h)
 
-pub before-accepted : (o : Outcome) → before o accepted ≡ o
-before-accepted accepted = refl
-before-accepted (refused n p) = refl
+pub before_accepted : (o : Outcome) → before o accepted ≡ o
+before_accepted accepted = refl
+before_accepted (refused n p) = refl
 
-pub before-assoc : (a b c : Outcome) → before (before a b) c ≡ before a (before b c)
-before-assoc accepted b c = refl
-before-assoc (refused n p) b c = refl
+pub before_assoc : (a b c : Outcome) → before (before a b) c ≡ before a (before b c)
+before_assoc accepted b c = refl
+before_assoc (refused n p) b c = refl
 
-pub first-append : (xs ys : List Outcome) → firstRefusal (xs ++ ys) ≡ before (firstRefusal xs) (firstRefusal ys)
-unfolding firstRefusal
-first-append [] ys = refl
-first-append (x ∷ xs) ys = rw (before-assoc x (firstRefusal xs) (firstRefusal ys), first-append xs ys)
+pub first_append : (xs ys : List Outcome) → first_refusal (xs ++ ys) ≡ before (first_refusal xs) (first_refusal ys)
+unfolding first_refusal
+first_append [] ys = refl
+first_append (x ∷ xs) ys = rw (before_assoc x (first_refusal xs) (first_refusal ys), first_append xs ys)
 
-pub first-snoc : (xs : List Outcome) (o : Outcome) → firstRefusal (xs ++ (o ∷ [])) ≡ before (firstRefusal xs) o
-unfolding firstRefusal
-first-snoc xs o = first-append xs (o ∷ []) ∙ ap (before (firstRefusal xs)) (before-accepted o)
+pub first_snoc : (xs : List Outcome) (o : Outcome) → first_refusal (xs ++ (o ∷ [])) ≡ before (first_refusal xs) o
+unfolding first_refusal
+first_snoc xs o = first_append xs (o ∷ []) ∙ ap (before (first_refusal xs)) (before_accepted o)
 
-pub first-two : (a b : Outcome) → before a b ≡ firstRefusal (a ∷ b ∷ [])
-unfolding firstRefusal
-first-two a b = rw (before-accepted b)
+pub first_two : (a b : Outcome) → before a b ≡ first_refusal (a ∷ b ∷ [])
+unfolding first_refusal
+first_two a b = rw (before_accepted b)
 
-pub first-three : (a b c : Outcome) → before a (before b c) ≡ firstRefusal (a ∷ b ∷ c ∷ [])
-unfolding firstRefusal
-first-three a b c = rw (before-accepted c)
+pub first_three : (a b c : Outcome) → before a (before b c) ≡ first_refusal (a ∷ b ∷ c ∷ [])
+unfolding first_refusal
+first_three a b c = rw (before_accepted c)
 
-pub first-four : (a b c d : Outcome) → before a (before b (before c d)) ≡ firstRefusal (a ∷ b ∷ c ∷ d ∷ [])
-unfolding firstRefusal
-first-four a b c d = rw (before-accepted d)
+pub first_four : (a b c d : Outcome) → before a (before b (before c d)) ≡ first_refusal (a ∷ b ∷ c ∷ d ∷ [])
+unfolding first_refusal
+first_four a b c d = rw (before_accepted d)
 
 -- a check after three
-pub three-then : (a b c d : Outcome) → before (firstRefusal (a ∷ b ∷ c ∷ [])) d ≡ firstRefusal (a ∷ b ∷ c ∷ d ∷ [])
-three-then a b c d = sym (first-snoc (a ∷ b ∷ c ∷ []) d)
+pub three_then : (a b c d : Outcome) → before (first_refusal (a ∷ b ∷ c ∷ [])) d ≡ first_refusal (a ∷ b ∷ c ∷ d ∷ [])
+three_then a b c d = sym (first_snoc (a ∷ b ∷ c ∷ []) d)

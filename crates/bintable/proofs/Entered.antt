@@ -8,17 +8,17 @@ use native.Mathlib.Omega.{arith}
 use lib.Dec.{eqb}
 use lib.ListN.{length, take, replicate}
 use lib.Seq.{take-append_seam}
-use Rattle.keyword.specs.Names.{indexLimit}
+use Rattle.keyword.specs.Names.{index_limit}
 use Rattle.refusal.specs.Refusal.{Outcome, accepted, refused, before}
 use Rattle.header.specs.Checks.{checked}
-use Rattle.header.proofs.Lengths.{length-small}
-use Rattle.header.proofs.Lookup.{accepted-length}
-use Rattle.layout.specs.Layout.{noColumn, rowBytes, columnsOf}
-use Rattle.bintable.specs.Checks.{isInteger, within, recordFor, sizeFor, firstRefusal}
-use Rattle.bintable.specs.Entry.{nine, nineChecks, columnChecks, layoutOf, check9, check10, headerChecks, allChecks}
-use Rattle.bintable.proofs.Bounds.{value-limit, size-limits, main-limit, both-accepted, first-accepted}
-use Rattle.bintable.proofs.Nine.{kinds, sizes, rest, nine-parts}
-use Rattle.bintable.proofs.Filled.{columnsTo, columns-length}
+use Rattle.header.proofs.Lengths.{length_small}
+use Rattle.header.proofs.Lookup.{accepted_length}
+use Rattle.layout.specs.Layout.{no_column, row_bytes, columns_of}
+use Rattle.bintable.specs.Checks.{is_integer, within, record_for, size_for, first_refusal}
+use Rattle.bintable.specs.Entry.{nine, nine_checks, column_checks, layout_of, check9, check10, header_checks, all_checks}
+use Rattle.bintable.proofs.Bounds.{value_limit, size_limits, main_limit, both_accepted, first_accepted}
+use Rattle.bintable.proofs.Nine.{kinds, sizes, rest, nine_parts}
+use Rattle.bintable.proofs.Filled.{columns_to, columns_length}
 
 regroup : (c n k r t : Outcome) → before (before c (before n (before k (before r accepted)))) t ≡ before (before c n) (before (before k r) t)
 regroup (refused x p) n k r t = refl
@@ -29,45 +29,45 @@ regroup accepted accepted accepted accepted t = refl
 
 module _ (h : List ℕ) where
   -- what the nine checks say, in their parts
-  nine-both : nineChecks h ≡ accepted → (firstRefusal (sizes h) ≡ accepted) × (firstRefusal (rest h) ≡ accepted)
-  nine-both e =
-      let p = both-accepted (before (firstRefusal (kinds h)) (firstRefusal (sizes h))) (firstRefusal (rest h)) (sym (nine-parts h) ∙ e) in
-      ((both-accepted (firstRefusal (kinds h)) (firstRefusal (sizes h)) p.0).1, p.1)
+  nine_both : nine_checks h ≡ accepted → (first_refusal (sizes h) ≡ accepted) × (first_refusal (rest h) ≡ accepted)
+  nine_both e =
+      let p = both_accepted (before (first_refusal (kinds h)) (first_refusal (sizes h))) (first_refusal (rest h)) (sym (nine_parts h) ∙ e) in
+      ((both_accepted (first_refusal (kinds h)) (first_refusal (sizes h)) p.0).1, p.1)
 
-  pub nine-sizes : nineChecks h ≡ accepted → firstRefusal (sizes h) ≡ accepted
-  nine-sizes e = (nine-both e).0
+  pub nine_sizes : nine_checks h ≡ accepted → first_refusal (sizes h) ≡ accepted
+  nine_sizes e = (nine_both e).0
 
-  pub nine-rest : nineChecks h ≡ accepted → firstRefusal (rest h) ≡ accepted
-  nine-rest e = (nine-both e).1
+  pub nine_rest : nine_checks h ≡ accepted → first_refusal (rest h) ≡ accepted
+  nine_rest e = (nine_both e).1
 
-  pub nine-tfields : nineChecks h ≡ accepted → sizeFor h "TFIELDS" ≤ 64
+  pub nine_tfields : nine_checks h ≡ accepted → size_for h "TFIELDS" ≤ 64
   unfolding nine
-  nine-tfields e = let a = first-accepted _ _ (nine-both e).1 in value-limit h (recordFor h "TFIELDS") isInteger (within 0 indexLimit) 64 (first-accepted _ _ a.1).0
+  nine_tfields e = let a = first_accepted _ _ (nine_both e).1 in value_limit h (record_for h "TFIELDS") is_integer (within 0 index_limit) 64 (first_accepted _ _ a.1).0
 
   -- the columns of the layout
-  pub columns_of : columnsOf (layoutOf h) ≡ columnsTo h (sizeFor h "TFIELDS")
-  unfolding layoutOf
-  columns_of =
-      let n = sizeFor h "TFIELDS" in
-      subst (λ (k : ℕ). take k (columnsTo h n ++ replicate (64 - n) noColumn) ≡ columnsTo h n) (columns-length h 0 1 n)
-      (take-append_seam (columnsTo h n) (replicate (64 - n) noColumn))
+  pub columns_of_lem : columns_of (layout_of h) ≡ columns_to h (size_for h "TFIELDS")
+  unfolding layout_of
+  columns_of_lem =
+      let n = size_for h "TFIELDS" in
+      subst (λ (k : ℕ). take k (columns_to h n ++ replicate (64 - n) no_column) ≡ columns_to h n) (columns_length h 0 1 n)
+      (take-append_seam (columns_to h n) (replicate (64 - n) no_column))
 
-  naxis1-of : (layoutOf h).naxis1 ≡ sizeFor h "NAXIS1"
-  unfolding layoutOf
-  naxis1-of = refl
+  naxis1_of : (layout_of h).naxis1 ≡ size_for h "NAXIS1"
+  unfolding layout_of
+  naxis1_of = refl
 
-  pub row-check : cond (eqb (rowBytes (columnsTo h (sizeFor h "TFIELDS"))) (sizeFor h "NAXIS1")) accepted (refused 9 0) ≡ check9 (layoutOf h)
+  pub row_check : cond (eqb (row_bytes (columns_to h (size_for h "TFIELDS"))) (size_for h "NAXIS1")) accepted (refused 9 0) ≡ check9 (layout_of h)
   unfolding check9
-  row-check = rw (columns_of, naxis1-of)
+  row_check = rw (columns_of_lem, naxis1_of)
 
   -- the sizes fit
-  pub layout-size : nineChecks h ≡ accepted → ((layoutOf h).naxis1 * (layoutOf h).naxis2 ≤ 17592186044416) × ((layoutOf h).pcount ≤ 2147483647)
-  unfolding layoutOf
-  layout-size e = (main-limit h (nine-sizes e), (size-limits h (nine-sizes e)).1.1)
+  pub layout_size : nine_checks h ≡ accepted → ((layout_of h).naxis1 * (layout_of h).naxis2 ≤ 17592186044416) × ((layout_of h).pcount ≤ 2147483647)
+  unfolding layout_of
+  layout_size e = (main_limit h (nine_sizes e), (size_limits h (nine_sizes e)).1.1)
 
-  pub header-short : checked h ≡ accepted → length h < 2 ^ 32
-  header-short e = omega (arith, length-small h (accepted-length h e))
+  pub header_short : checked h ≡ accepted → length h < 2 ^ 32
+  header_short e = omega (arith, length_small h (accepted_length h e))
 
-  pub entry-parts : (a : List ℕ) → allChecks h a ≡ before (before (checked h) (nineChecks h)) (before (before (columnChecks h (sizeFor h "TFIELDS")) (check9 (layoutOf h))) (check10 (layoutOf h) a))
-  unfolding allChecks headerChecks firstRefusal
-  entry-parts a = regroup (checked h) (nineChecks h) (columnChecks h (sizeFor h "TFIELDS")) (check9 (layoutOf h)) (check10 (layoutOf h) a)
+  pub entry_parts : (a : List ℕ) → all_checks h a ≡ before (before (checked h) (nine_checks h)) (before (before (column_checks h (size_for h "TFIELDS")) (check9 (layout_of h))) (check10 (layout_of h) a))
+  unfolding all_checks header_checks first_refusal
+  entry_parts a = regroup (checked h) (nine_checks h) (column_checks h (size_for h "TFIELDS")) (check9 (layout_of h)) (check10 (layout_of h) a)

@@ -11,63 +11,63 @@ use lib.ListN.{length, get_or, replicate, get_or-append}
 use borrow.Author.Tests.{le-leb}
 use Rattle.card.specs.declared.Value.{Value}
 use Rattle.card.specs.declared.Value.TheVariants.{Integer, String, Invalid}
-use Rattle.card.proofs.Inside.{value-inside}
+use Rattle.card.proofs.Inside.{value_inside}
 use Rattle.ascii.specs.declared.Found.{Found}
 use Rattle.ascii.specs.declared.Found.TheVariants.{At, Nothing}
-use Rattle.layout.specs.Layout.{noColumn, columnBytes, columnsOf}
+use Rattle.layout.specs.Layout.{no_column, column_bytes, columns_of}
 use Rattle.layout.specs.declared.Name.{Name}
 use Rattle.layout.specs.declared.Name.TheVariants.{Stretch}
 use Rattle.layout.specs.declared.Column.{Column}
-use Rattle.layout.specs.Names.{inHeader, stretchOf, partOf, columnName, sameName, findName}
-use Rattle.layout.proofs.Named.{name-at, column-at}
-use Rattle.layout.proofs.EitherCase.{found-upto}
-use Rattle.bintable.specs.Checks.{textIn, valueAt, sizeFor, ttypeOf}
-use Rattle.bintable.specs.Entry.{nameIn, columnsFrom, layoutOf}
-use Rattle.bintable.proofs.Filled.{columnOf, columnsTo, columns-length}
+use Rattle.layout.specs.Names.{in_header, stretch_of, part_of, column_name, same_name, find_name}
+use Rattle.layout.proofs.Named.{name_at, column_at}
+use Rattle.layout.proofs.EitherCase.{found_upto}
+use Rattle.bintable.specs.Checks.{text_in, value_at, size_for, ttype_of}
+use Rattle.bintable.specs.Entry.{name_in, columns_from, layout_of}
+use Rattle.bintable.proofs.Filled.{column_of, columns_to, columns_length}
 
 module _ (h : List ℕ) where
-  part-text : (v : Value) → ((a n : ℕ) → v ≡ String a n → a + n ≤ length h) → partOf h (nameIn v) ≡ textIn h v
-  unfolding partOf
-  part-text (Integer z) i = refl
-  part-text (String a n) i = rw (le-leb (a + n) (length h) (i a n refl))
-  part-text Invalid i = refl
+  part_text : (v : Value) → ((a n : ℕ) → v ≡ String a n → a + n ≤ length h) → part_of h (name_in v) ≡ text_in h v
+  unfolding part_of
+  part_text (Integer z) i = refl
+  part_text (String a n) i = rw (le-leb (a + n) (length h) (i a n refl))
+  part_text Invalid i = refl
 
-  record-text : (r : Found) → partOf h (nameIn (valueAt h r)) ≡ textIn h (valueAt h r)
-  unfolding partOf
-  record-text (At k) = part-text (valueAt h (At k)) (λ a n e. value-inside a n h k e)
-  record-text Nothing = refl
+  record_text : (r : Found) → part_of h (name_in (value_at h r)) ≡ text_in h (value_at h r)
+  unfolding part_of
+  record_text (At k) = part_text (value_at h (At k)) (λ a n e. value_inside a n h k e)
+  record_text Nothing = refl
 
-  column-name : (at n k c : ℕ) → c < k → (get_or (columnsFrom h at n k) c noColumn).name ≡ nameIn (valueAt h (ttypeOf h (n + c)))
-  unfolding columnsFrom
-  column-name at n zero c p = absurd (not-suc-le-zero p)
-  column-name at n (suc k) zero p = rw (add-zero n)
-  column-name at n (suc k) (suc c) p =
-      column-name (at + columnBytes (columnOf h at n)) (suc n) k c (le_of_suc-le-suc p)
-      ∙ ap (λ (m : ℕ). nameIn (valueAt h (ttypeOf h m))) (suc-add n c ∙ sym (add-suc n c))
+  column_name_lem : (at n k c : ℕ) → c < k → (get_or (columns_from h at n k) c no_column).name ≡ name_in (value_at h (ttype_of h (n + c)))
+  unfolding columns_from
+  column_name_lem at n zero c p = absurd (not-suc-le-zero p)
+  column_name_lem at n (suc k) zero p = rw (add-zero n)
+  column_name_lem at n (suc k) (suc c) p =
+      column_name_lem (at + column_bytes (column_of h at n)) (suc n) k c (le_of_suc-le-suc p)
+      ∙ ap (λ (m : ℕ). name_in (value_at h (ttype_of h m))) (suc-add n c ∙ sym (add-suc n c))
 
-  listed : (c : ℕ) → c < (layoutOf h).tfields → (get_or (layoutOf h).columns c noColumn).name ≡ nameIn (valueAt h (ttypeOf h (c + 1)))
-  unfolding layoutOf
+  listed : (c : ℕ) → c < (layout_of h).tfields → (get_or (layout_of h).columns c no_column).name ≡ name_in (value_at h (ttype_of h (c + 1)))
+  unfolding layout_of
   listed c p =
-      let n = sizeFor h "TFIELDS" in
-      rw (get_or-append (columnsTo h n) (replicate (64 - n) noColumn) noColumn c (omega (arith, columns-length h 0 1 n, p)))
-      (column-name 0 1 n c p ∙ ap (λ (m : ℕ). nameIn (valueAt h (ttypeOf h m))) (omega arith))
+      let n = size_for h "TFIELDS" in
+      rw (get_or-append (columns_to h n) (replicate (64 - n) no_column) no_column c (omega (arith, columns_length h 0 1 n, p)))
+      (column_name_lem 0 1 n c p ∙ ap (λ (m : ℕ). name_in (value_at h (ttype_of h m))) (omega arith))
 
-  pub own-name : (c : ℕ) → c < (layoutOf h).tfields → columnName h (layoutOf h) c ≡ textIn h (valueAt h (ttypeOf h (c + 1)))
-  own-name c p = sym (name-at h (layoutOf h) c p) ∙ ap (partOf h) (listed c p) ∙ record-text (ttypeOf h (c + 1))
+  pub own_name : (c : ℕ) → c < (layout_of h).tfields → column_name h (layout_of h) c ≡ text_in h (value_at h (ttype_of h (c + 1)))
+  own_name c p = sym (name_at h (layout_of h) c p) ∙ ap (part_of h) (listed c p) ∙ record_text (ttype_of h (c + 1))
 
-  reached : (r : Found) (a n : ℕ) → valueAt h r ≡ String a n → a + n ≤ length h
-  reached (At k) a n e = value-inside a n h k e
+  reached : (r : Found) (a n : ℕ) → value_at h r ≡ String a n → a + n ≤ length h
+  reached (At k) a n e = value_inside a n h k e
   reached Nothing a n e = absurd (let w : ◌≡◌ {A = ℕ} 0 1 = cc in omega arith)
 
   -- the TTYPEn of column c is the string of n bytes from byte a on
-  module _ (c a n : ℕ) (p : c < (layoutOf h).tfields) (v : valueAt h (ttypeOf h (c + 1)) ≡ String a n) where
-    own-stretch : (get_or (columnsOf (layoutOf h)) c noColumn).name ≡ Stretch a n
-    own-stretch = ap (λ (x : Column). x.name) (column-at (layoutOf h) c p) ∙ listed c p ∙ ap nameIn v
+  module _ (c a n : ℕ) (p : c < (layout_of h).tfields) (v : value_at h (ttype_of h (c + 1)) ≡ String a n) where
+    own_stretch : (get_or (columns_of (layout_of h)) c no_column).name ≡ Stretch a n
+    own_stretch = ap (λ (x : Column). x.name) (column_at (layout_of h) c p) ∙ listed c p ∙ ap name_in v
 
     -- if that is alike to the name sought, its column is found or one in front of it is
-    pub own-found : (s : List ℕ) → sameName (textIn h (String a n)) s ≡ true
-        → (d : ℕ) × (findName h (layoutOf h) s ≡ At d) × (d ≤ c)
-    own-found s e =
-        let i = le-leb (a + n) (length h) (reached (ttypeOf h (c + 1)) a n v) in
-        let has = subst (λ (m : Name). (inHeader h m && sameName (stretchOf h m) s) ≡ true) (sym own-stretch) (rw i e) in
-        let q = found-upto h (layoutOf h) s c has in (q.0, q.1, q.2)
+    pub own_found : (s : List ℕ) → same_name (text_in h (String a n)) s ≡ true
+        → (d : ℕ) × (find_name h (layout_of h) s ≡ At d) × (d ≤ c)
+    own_found s e =
+        let i = le-leb (a + n) (length h) (reached (ttype_of h (c + 1)) a n v) in
+        let has = subst (λ (m : Name). (in_header h m && same_name (stretch_of h m) s) ≡ true) (sym own_stretch) (rw i e) in
+        let q = found_upto h (layout_of h) s c has in (q.0, q.1, q.2)

@@ -1,8 +1,8 @@
 // The checks of one record and its value, each by its number in docs/FORMAT.md, section 10.
 ghost use Rattle.std.specs.Prelude.{◌≡◌};
 ghost use Rattle.card.specs.declared.Value.TheVariants.{Integer};
-ghost use Rattle.refusal.specs.Refusal.{before, outcomeOf};
-ghost use Rattle.bintable.specs.Checks.{isInteger, isString, notNegative, sizeIn, within, valueAt, check4, check5, check6, check7, check8};
+ghost use Rattle.refusal.specs.Refusal.{before, outcome_of};
+ghost use Rattle.bintable.specs.Checks.{is_integer, is_string, not_negative, size_in, within, value_at, check4, check5, check6, check7, check8};
 
 use ascii::Found;
 use card::Value;
@@ -11,7 +11,7 @@ use tform::TForm;
 
 // The first refusal of two checks.
 pub fn before(first: Check, second: Check) -> Check
-    ensures { outcomeOf result ≡ before (outcomeOf first) (outcomeOf second) }
+    ensures { outcome_of result ≡ before (outcome_of first) (outcome_of second) }
 {
     match first {
         Check::Passed => second,
@@ -21,7 +21,7 @@ pub fn before(first: Check, second: Check) -> Check
 
 // The value of a record, unreadable where there is none.
 pub fn value_of(header: &[u8], found: Found) -> Value
-    ensures { result ≡ valueAt header.now found }
+    ensures { result ≡ value_at header.now found }
 {
     match found {
         Found::At(k) => card::parse_value(header, k),
@@ -30,7 +30,7 @@ pub fn value_of(header: &[u8], found: Found) -> Value
 }
 
 pub fn is_integer(value: Value) -> bool
-    ensures { result ≡ isInteger value }
+    ensures { result ≡ is_integer value }
 {
     match value {
         Value::Integer(_) => true,
@@ -40,7 +40,7 @@ pub fn is_integer(value: Value) -> bool
 }
 
 pub fn is_string(value: Value) -> bool
-    ensures { result ≡ isString value }
+    ensures { result ≡ is_string value }
 {
     match value {
         Value::Integer(_) => false,
@@ -50,7 +50,7 @@ pub fn is_string(value: Value) -> bool
 }
 
 pub fn not_negative(value: Value) -> bool
-    ensures { result ≡ notNegative value }
+    ensures { result ≡ not_negative value }
 {
     match value {
         Value::Integer(n) => 0 <= n,
@@ -61,7 +61,7 @@ pub fn not_negative(value: Value) -> bool
 
 // `n`, or 0 where it is negative.
 fn magnitude(n: i64) -> u64
-    ensures { result ≡ sizeIn (Integer n) }
+    ensures { result ≡ size_in (Integer n) }
 {
     if n < 0 {
         return 0;
@@ -71,7 +71,7 @@ fn magnitude(n: i64) -> u64
 
 // The number of a value, 0 where it is none or negative.
 pub fn size(value: Value) -> u64
-    ensures { result ≡ sizeIn value }
+    ensures { result ≡ size_in value }
 {
     match value {
         Value::Integer(n) => magnitude(n),
@@ -82,7 +82,7 @@ pub fn size(value: Value) -> u64
 
 // The number of a record's value.
 pub fn size_of(header: &[u8], found: Found) -> u64
-    ensures { result ≡ sizeIn (valueAt header.now found) }
+    ensures { result ≡ size_in (value_at header.now found) }
 {
     size(value_of(header, found))
 }
@@ -102,7 +102,7 @@ pub fn is_within(value: Value, low: u64, high: u64) -> bool
 }
 
 pub fn check4(found: Found, n: usize) -> Check
-    ensures { outcomeOf result ≡ check4 n found }
+    ensures { outcome_of result ≡ check4 n found }
 {
     match found {
         Found::At(_) => Check::Passed,
@@ -111,7 +111,7 @@ pub fn check4(found: Found, n: usize) -> Check
 }
 
 pub fn check5(kind: bool, found: Found) -> Check
-    ensures { outcomeOf result ≡ check5 kind found }
+    ensures { outcome_of result ≡ check5 kind found }
 {
     let Found::At(k) = found else {
         return Check::Passed;
@@ -123,7 +123,7 @@ pub fn check5(kind: bool, found: Found) -> Check
 }
 
 pub fn check6(right: bool, found: Found) -> Check
-    ensures { outcomeOf result ≡ check6 right found }
+    ensures { outcome_of result ≡ check6 right found }
 {
     let Found::At(k) = found else {
         return Check::Passed;
@@ -135,7 +135,7 @@ pub fn check6(right: bool, found: Found) -> Check
 }
 
 pub fn check7(limit: u64, value: Value, found: Found) -> Check
-    ensures { outcomeOf result ≡ check7 limit value found }
+    ensures { outcome_of result ≡ check7 limit value found }
 {
     let Found::At(k) = found else {
         return Check::Passed;
@@ -147,7 +147,7 @@ pub fn check7(limit: u64, value: Value, found: Found) -> Check
 }
 
 pub fn check8(n: usize, form: TForm) -> Check
-    ensures { outcomeOf result ≡ check8 n form }
+    ensures { outcome_of result ≡ check8 n form }
 {
     match form {
         TForm::Valid { form: _, count: _ } => Check::Passed,

@@ -1,13 +1,13 @@
 // The columns of a header, and the layout.
 ghost use Rattle.std.specs.Prelude.{◌≡◌, cond, ◌++◌, ℕ, ◌+◌, ◌-◌, ◌≤◌, ◌<◌, ◌^◌, eqb, leb, length, replicate};
 ghost use Rattle.card.specs.declared.Value.TheVariants.{String};
-ghost use Rattle.keyword.specs.Names.{columnSlots};
-ghost use Rattle.refusal.specs.Refusal.{accepted, refused, before, outcomeOf};
-ghost use Rattle.header.specs.Checks.{recordOf, indexBy, checked};
+ghost use Rattle.keyword.specs.Names.{column_slots};
+ghost use Rattle.refusal.specs.Refusal.{accepted, refused, before, outcome_of};
+ghost use Rattle.header.specs.Checks.{record_of, index_by, checked};
 ghost use Rattle.refusal.specs.declared.Check.TheVariants.{Refused};
-ghost use Rattle.layout.specs.Layout.{tfieldsLimit, noColumn, emptyLayout, rowBytes};
-ghost use Rattle.bintable.specs.Checks.{sizeFor};
-ghost use Rattle.bintable.specs.Entry.{columnCheck, columnChecks, typeIn, countIn, nameIn, theapIn, columnAt, columnsFrom, nineChecks, layoutOf, check9, allChecks, entryBy, entry, layoutIn};
+ghost use Rattle.layout.specs.Layout.{tfields_limit, no_column, empty_layout, row_bytes};
+ghost use Rattle.bintable.specs.Checks.{size_for};
+ghost use Rattle.bintable.specs.Entry.{column_check, column_checks, type_in, count_in, name_in, theap_in, column_at, columns_from, nine_checks, layout_of, check9, all_checks, entry_by, entry, layout_in};
 
 use super::{Parsed, checks, text};
 use ascii::Found;
@@ -31,7 +31,7 @@ pub struct ReadColumns {
 }
 
 fn no_column() -> Column
-    ensures { result ≡ noColumn }
+    ensures { result ≡ no_column }
 {
     Column {
         form: TFormType::Items(VariableArrayTy::L),
@@ -43,7 +43,7 @@ fn no_column() -> Column
 
 // The layout beside a refusal.
 fn empty_layout() -> BinTable
-    ensures { result ≡ emptyLayout }
+    ensures { result ≡ empty_layout }
 {
     let none = no_column();
     let columns = [none; TFIELDS_LIMIT];
@@ -60,7 +60,7 @@ fn empty_layout() -> BinTable
 // A refusal beside the empty layout.
 pub fn refused(refusal: Refusal) -> Parsed
     ensures check { result.check ≡ Refused refusal }
-    ensures layout { result.layout ≡ emptyLayout }
+    ensures layout { result.layout ≡ empty_layout }
 {
     Parsed {
         check: Check::Refused(refusal),
@@ -69,7 +69,7 @@ pub fn refused(refusal: Refusal) -> Parsed
 }
 
 fn type_in(form: TForm) -> TFormType
-    ensures { result ≡ typeIn form }
+    ensures { result ≡ type_in form }
 {
     match form {
         TForm::Valid { form, count: _ } => form,
@@ -78,7 +78,7 @@ fn type_in(form: TForm) -> TFormType
 }
 
 fn count_in(form: TForm) -> u32
-    ensures { result ≡ countIn form }
+    ensures { result ≡ count_in form }
 {
     match form {
         TForm::Valid { form: _, count } => count,
@@ -89,7 +89,7 @@ fn count_in(form: TForm) -> u32
 // The stretch that a value is, which fits 32 bits as every one of a header does.
 fn name_in(value: Value) -> Name
     requires { (a n : ℕ) → value ≡ String a n → (a < 2 ^ 32) × (n < 2 ^ 32) }
-    ensures { result ≡ nameIn value }
+    ensures { result ≡ name_in value }
 {
     match value {
         Value::Integer(_) => Name::Missing,
@@ -103,9 +103,9 @@ fn name_in(value: Value) -> Name
 
 // Column i, from 0, which starts at byte `start` of a row.
 fn read_column(header: &[u8], first: &[u16], i: usize, start: u64) -> ReadColumn
-    requires { (first.now ≡ indexBy (recordOf header.now)) × ((length header.now < 2 ^ 32) × (i < columnSlots)) }
-    ensures check { outcomeOf result.check ≡ columnCheck header.now (i + 1) }
-    ensures column { result.column ≡ columnAt header.now (i + 1) start }
+    requires { (first.now ≡ index_by (record_of header.now)) × ((length header.now < 2 ^ 32) × (i < column_slots)) }
+    ensures check { outcome_of result.check ≡ column_check header.now (i + 1) }
+    ensures column { result.column ≡ column_at header.now (i + 1) start }
 {
     let form_record = header::record_of(first, keyword::TFORM1 + i);
     let name_record = header::record_of(first, keyword::TTYPE1 + i);
@@ -127,11 +127,11 @@ fn read_column(header: &[u8], first: &[u16], i: usize, start: u64) -> ReadColumn
 }
 
 fn read_columns(header: &[u8], first: &[u16], tfields: usize) -> ReadColumns
-    requires { (first.now ≡ indexBy (recordOf header.now)) × ((length header.now < 2 ^ 32) × (tfields ≤ tfieldsLimit)) }
-    ensures check { outcomeOf result.check ≡ columnChecks header.now tfields }
-    ensures columns { result.columns ≡ columnsFrom header.now 0 1 tfields
-        ++ replicate (tfieldsLimit - tfields) noColumn }
-    ensures bytes { result.bytes ≡ rowBytes (columnsFrom header.now 0 1 tfields) }
+    requires { (first.now ≡ index_by (record_of header.now)) × ((length header.now < 2 ^ 32) × (tfields ≤ tfields_limit)) }
+    ensures check { outcome_of result.check ≡ column_checks header.now tfields }
+    ensures columns { result.columns ≡ columns_from header.now 0 1 tfields
+        ++ replicate (tfields_limit - tfields) no_column }
+    ensures bytes { result.bytes ≡ row_bytes (columns_from header.now 0 1 tfields) }
 {
     let none = no_column();
     let mut columns = [none; TFIELDS_LIMIT];
@@ -157,7 +157,7 @@ fn read_columns(header: &[u8], first: &[u16], tfields: usize) -> ReadColumns
 
 // Where the heap starts: at the main size, if THEAP is missing.
 fn heap_start(main: u64, value: Value, found: Found) -> u64
-    ensures { result ≡ theapIn main value found }
+    ensures { result ≡ theap_in main value found }
 {
     match found {
         Found::At(_) => checks::size(value),
@@ -166,7 +166,7 @@ fn heap_start(main: u64, value: Value, found: Found) -> u64
 }
 
 fn check9(bytes: u64, naxis1: u64) -> Check
-    ensures { outcomeOf result ≡ cond (eqb bytes naxis1) accepted (refused 9 0) }
+    ensures { outcome_of result ≡ cond (eqb bytes naxis1) accepted (refused 9 0) }
 {
     if bytes == naxis1 {
         return Check::Passed;
@@ -175,7 +175,7 @@ fn check9(bytes: u64, naxis1: u64) -> Check
 }
 
 fn check10(size: u64, len: usize) -> Check
-    ensures { outcomeOf result ≡ cond (leb size len) accepted (refused 10 0) }
+    ensures { outcome_of result ≡ cond (leb size len) accepted (refused 10 0) }
 {
     if size <= len as u64 {
         return Check::Passed;
@@ -185,11 +185,11 @@ fn check10(size: u64, len: usize) -> Check
 
 // The layout of a header whose nine names pass their checks, and the checks of its columns.
 fn read_layout(header: &[u8], first: &[u16]) -> Parsed
-    requires { (first.now ≡ indexBy (recordOf header.now))
-        × ((checked header.now ≡ accepted) × (nineChecks header.now ≡ accepted)) }
-    ensures check { outcomeOf result.check
-        ≡ before (columnChecks header.now (sizeFor header.now "TFIELDS")) (check9 (layoutOf header.now)) }
-    ensures layout { result.layout ≡ layoutOf header.now }
+    requires { (first.now ≡ index_by (record_of header.now))
+        × ((checked header.now ≡ accepted) × (nine_checks header.now ≡ accepted)) }
+    ensures check { outcome_of result.check
+        ≡ before (column_checks header.now (size_for header.now "TFIELDS")) (check9 (layout_of header.now)) }
+    ensures layout { result.layout ≡ layout_of header.now }
 {
     let naxis1 = checks::size_of(header, header::record_of(first, keyword::NAXIS1));
     let naxis2 = checks::size_of(header, header::record_of(first, keyword::NAXIS2));
@@ -217,8 +217,8 @@ fn read_layout(header: &[u8], first: &[u16]) -> Parsed
 
 // The layout, or a refusal beside the empty one.
 fn answered(check: Check, layout: BinTable) -> Parsed
-    ensures check { outcomeOf result.check ≡ outcomeOf check }
-    ensures layout { result.layout ≡ layoutIn (entryBy (outcomeOf check) layout) }
+    ensures check { outcome_of result.check ≡ outcome_of check }
+    ensures layout { result.layout ≡ layout_in (entry_by (outcome_of check) layout) }
 {
     match check {
         Check::Passed => Parsed {
@@ -231,10 +231,10 @@ fn answered(check: Check, layout: BinTable) -> Parsed
 
 // What `parse` answers on a header whose nine names pass their checks.
 pub fn parse_table(header: &[u8], first: &[u16], area: &[u8]) -> Parsed
-    requires { (first.now ≡ indexBy (recordOf header.now))
-        × ((checked header.now ≡ accepted) × (nineChecks header.now ≡ accepted)) }
-    ensures check { outcomeOf result.check ≡ allChecks header.now area.now }
-    ensures layout { result.layout ≡ layoutIn (entry header.now area.now) }
+    requires { (first.now ≡ index_by (record_of header.now))
+        × ((checked header.now ≡ accepted) × (nine_checks header.now ≡ accepted)) }
+    ensures check { outcome_of result.check ≡ all_checks header.now area.now }
+    ensures layout { result.layout ≡ layout_in (entry header.now area.now) }
 {
     let read = read_layout(header, first);
     let layout = read.layout;

@@ -3,12 +3,12 @@
 ghost use Rattle.std.specs.Prelude.{◌≡◌, [], ◌∷◌, ◌+◌, ◌<◌, ◌^◌, take, drop};
 ghost use Rattle.card.specs.declared.Value.{Value};
 ghost use Rattle.ascii.specs.Text.{bytes, same};
-ghost use Rattle.keyword.specs.Names.{indexLimit};
-ghost use Rattle.refusal.specs.Refusal.{accepted, outcomeOf};
-ghost use Rattle.header.specs.Checks.{recordOf, indexBy};
-ghost use Rattle.layout.specs.Layout.{tfieldsLimit};
-ghost use Rattle.bintable.specs.Checks.{isInteger, isString, notNegative, within, textIn, check4, check5, check6, firstRefusal};
-ghost use Rattle.bintable.specs.Entry.{required, limited, theapCheck, nine, nineChecks};
+ghost use Rattle.keyword.specs.Names.{index_limit};
+ghost use Rattle.refusal.specs.Refusal.{accepted, outcome_of};
+ghost use Rattle.header.specs.Checks.{record_of, index_by};
+ghost use Rattle.layout.specs.Layout.{tfields_limit};
+ghost use Rattle.bintable.specs.Checks.{is_integer, is_string, not_negative, within, text_in, check4, check5, check6, first_refusal};
+ghost use Rattle.bintable.specs.Entry.{required, limited, theap_check, nine, nine_checks};
 
 use super::{checks, text};
 use ascii::Found;
@@ -18,7 +18,7 @@ use refusal::Check;
 
 // A name that must be there, by 4, 5 and 6.
 fn check_required(found: Found, kind: bool, right: bool) -> Check
-    ensures { outcomeOf result ≡ firstRefusal (check4 0 found ∷ check5 kind found ∷ check6 right found ∷ []) }
+    ensures { outcome_of result ≡ first_refusal (check4 0 found ∷ check5 kind found ∷ check6 right found ∷ []) }
 {
     let c4 = checks::check4(found, 0);
     let c5 = checks::check5(kind, found);
@@ -27,8 +27,8 @@ fn check_required(found: Found, kind: bool, right: bool) -> Check
 }
 
 fn check_xtension(header: &[u8], found: Found) -> Check
-    ensures { outcomeOf result ≡ required header.now found isString
-        (λ (v : Value). same (textIn header.now v) (bytes "BINTABLE")) }
+    ensures { outcome_of result ≡ required header.now found is_string
+        (λ (v : Value). same (text_in header.now v) (bytes "BINTABLE")) }
 {
     let value = checks::value_of(header, found);
     let right = ascii::same_bytes(text::text_of(header, value), b"BINTABLE");
@@ -37,7 +37,7 @@ fn check_xtension(header: &[u8], found: Found) -> Check
 
 // A name that has one value only.
 fn check_fixed(header: &[u8], found: Found, n: u64) -> Check
-    ensures { outcomeOf result ≡ required header.now found isInteger (within n n) }
+    ensures { outcome_of result ≡ required header.now found is_integer (within n n) }
 {
     let value = checks::value_of(header, found);
     let right = checks::is_within(value, n, n);
@@ -46,7 +46,7 @@ fn check_fixed(header: &[u8], found: Found, n: u64) -> Check
 
 // A size and its limit.
 fn check_size(header: &[u8], found: Found, limit: u64) -> Check
-    ensures { outcomeOf result ≡ limited header.now found isInteger notNegative limit }
+    ensures { outcome_of result ≡ limited header.now found is_integer not_negative limit }
 {
     let value = checks::value_of(header, found);
     let right = checks::not_negative(value);
@@ -55,7 +55,7 @@ fn check_size(header: &[u8], found: Found, limit: u64) -> Check
 }
 
 fn check_tfields(header: &[u8], found: Found) -> Check
-    ensures { outcomeOf result ≡ limited header.now found isInteger (within 0 indexLimit) tfieldsLimit }
+    ensures { outcome_of result ≡ limited header.now found is_integer (within 0 index_limit) tfields_limit }
 {
     let value = checks::value_of(header, found);
     let right = checks::is_within(value, 0, INDEX_LIMIT as u64);
@@ -65,7 +65,7 @@ fn check_tfields(header: &[u8], found: Found) -> Check
 
 fn check_theap(header: &[u8], found: Found, main: u64, pcount: u64) -> Check
     requires { main + pcount < 2 ^ 64 }
-    ensures { outcomeOf result ≡ theapCheck header.now found main pcount }
+    ensures { outcome_of result ≡ theap_check header.now found main pcount }
 {
     let value = checks::value_of(header, found);
     let c5 = checks::check5(checks::is_integer(value), found);
@@ -75,8 +75,8 @@ fn check_theap(header: &[u8], found: Found, main: u64, pcount: u64) -> Check
 
 // XTENSION, BITPIX and NAXIS.
 fn check_kind(header: &[u8], first: &[u16]) -> Check
-    requires { first.now ≡ indexBy (recordOf header.now) }
-    ensures { outcomeOf result ≡ firstRefusal (take 3 (nine header.now)) }
+    requires { first.now ≡ index_by (record_of header.now) }
+    ensures { outcome_of result ≡ first_refusal (take 3 (nine header.now)) }
 {
     let xtension = check_xtension(header, header::record_of(first, keyword::XTENSION));
     let bitpix = check_fixed(header, header::record_of(first, keyword::BITPIX), 8);
@@ -86,8 +86,8 @@ fn check_kind(header: &[u8], first: &[u16]) -> Check
 
 // NAXIS1, NAXIS2 and PCOUNT.
 fn check_sizes(header: &[u8], first: &[u16]) -> Check
-    requires { first.now ≡ indexBy (recordOf header.now) }
-    ensures { outcomeOf result ≡ firstRefusal (take 3 (drop 3 (nine header.now))) }
+    requires { first.now ≡ index_by (record_of header.now) }
+    ensures { outcome_of result ≡ first_refusal (take 3 (drop 3 (nine header.now))) }
 {
     let naxis1 = check_size(
         header,
@@ -109,9 +109,9 @@ fn check_sizes(header: &[u8], first: &[u16]) -> Check
 
 // GCOUNT, TFIELDS and THEAP, whose range needs sizes within their limits.
 fn check_rest(header: &[u8], first: &[u16]) -> Check
-    requires { (first.now ≡ indexBy (recordOf header.now))
-        × (firstRefusal (take 3 (drop 3 (nine header.now))) ≡ accepted) }
-    ensures { outcomeOf result ≡ firstRefusal (drop 6 (nine header.now)) }
+    requires { (first.now ≡ index_by (record_of header.now))
+        × (first_refusal (take 3 (drop 3 (nine header.now))) ≡ accepted) }
+    ensures { outcome_of result ≡ first_refusal (drop 6 (nine header.now)) }
 {
     let naxis1 = checks::size_of(header, header::record_of(first, keyword::NAXIS1));
     let naxis2 = checks::size_of(header, header::record_of(first, keyword::NAXIS2));
@@ -128,8 +128,8 @@ fn check_rest(header: &[u8], first: &[u16]) -> Check
 }
 
 pub fn check_nine(header: &[u8], first: &[u16]) -> Check
-    requires { first.now ≡ indexBy (recordOf header.now) }
-    ensures { outcomeOf result ≡ nineChecks header.now }
+    requires { first.now ≡ index_by (record_of header.now) }
+    ensures { outcome_of result ≡ nine_checks header.now }
 {
     let kind = check_kind(header, first);
     let sizes = check_sizes(header, first);

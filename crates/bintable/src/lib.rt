@@ -7,8 +7,8 @@ mod keywords;
 mod text;
 
 ghost use Rattle.std.specs.Prelude.{◌≡◌};
-ghost use Rattle.refusal.specs.Refusal.{outcomeOf};
-ghost use Rattle.bintable.specs.Entry.{allChecks, entry, layoutIn};
+ghost use Rattle.refusal.specs.Refusal.{outcome_of};
+ghost use Rattle.bintable.specs.Entry.{all_checks, entry, layout_in};
 
 use layout::BinTable;
 use refusal::Check;
@@ -22,8 +22,8 @@ pub struct Parsed {
 
 // The layout of a table, or what refuses it.
 pub fn parse(header: &[u8], area: &[u8]) -> Parsed
-    ensures check { outcomeOf result.check ≡ allChecks header.now area.now }
-    ensures layout { result.layout ≡ layoutIn (entry header.now area.now) }
+    ensures check { outcome_of result.check ≡ all_checks header.now area.now }
+    ensures layout { result.layout ≡ layout_in (entry header.now area.now) }
 {
     let parsed = header::parse(header);
     let whole = parsed.check;

@@ -1,6 +1,6 @@
 // Parts of a header.
 ghost use Rattle.std.specs.Prelude.{◌≡◌, take, drop};
-ghost use Rattle.bintable.specs.Checks.{textIn};
+ghost use Rattle.bintable.specs.Checks.{text_in};
 
 use card::Value;
 
@@ -20,7 +20,7 @@ pub fn stretch(header: &[u8], start: usize, len: usize) -> &[u8]
 
 // The bytes of a string.
 pub fn text_of(header: &[u8], value: Value) -> &[u8]
-    ensures { result.now ≡ textIn header.now value }
+    ensures { result.now ≡ text_in header.now value }
 {
     let Value::String { start, len } = value else {
         return &header[0..0];

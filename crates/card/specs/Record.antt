@@ -4,17 +4,17 @@ use Rattle.std.specs.Prelude.{ℕ, ◌*◌, ◌/◌, List, [], ◌++◌, Bool, c
 use Rattle.ascii.specs.Text.{bytes, same, trim}
 
 -- record k; a number past the last whole record gives a blank one
-unfoldable pub cardAt : List ℕ → ℕ → List ℕ
-cardAt h k = cond (ltb k (length h / 80)) (take 80 (drop (k * 80) h)) (replicate 80 32)
+unfoldable pub card_at : List ℕ → ℕ → List ℕ
+card_at h k = cond (ltb k (length h / 80)) (take 80 (drop (k * 80) h)) (replicate 80 32)
 
 -- END: those three letters and 77 spaces
-unfoldable pub isEnd : List ℕ → Bool
-isEnd r = same r (bytes "END" ++ replicate 77 32)
+unfoldable pub is_end : List ℕ → Bool
+is_end r = same r (bytes "END" ++ replicate 77 32)
 
 -- it holds a value: bytes 9 and 10 are the value indicator
-unfoldable pub hasValue : List ℕ → Bool
-hasValue r = same (take 2 (drop 8 r)) (bytes "= ")
+unfoldable pub has_value : List ℕ → Bool
+has_value r = same (take 2 (drop 8 r)) (bytes "= ")
 
 -- its name: bytes 1 to 8 without trailing spaces; a record that holds no value has none, which is the empty list
-unfoldable pub nameOf : List ℕ → List ℕ
-nameOf r = cond (hasValue r) (trim (take 8 r)) []
+unfoldable pub name_of : List ℕ → List ℕ
+name_of r = cond (has_value r) (trim (take 8 r)) []

@@ -1,7 +1,7 @@
 // The value in a record's value field. `start` is the place of a field's first byte in the header.
 ghost use Rattle.std.specs.Prelude.{◌≡◌, ◌+◌, ◌<◌, ◌^◌, length};
 ghost use Rattle.card.specs.declared.Value.TheVariants.{Integer};
-ghost use Rattle.card.specs.Value.{signed, digitsValue, integerValue, stringValue, valueFrom, fieldValue};
+ghost use Rattle.card.specs.Value.{signed, digits_value, integer_value, string_value, value_from, field_value};
 
 use super::{Value, text};
 use ascii::Found;
@@ -17,7 +17,7 @@ fn signed_value(n: u64, minus: bool) -> Value
 }
 
 fn digits_value(s: &[u8], minus: bool) -> Value
-    ensures { result ≡ digitsValue minus s.now }
+    ensures { result ≡ digits_value minus s.now }
 {
     let n = ascii::leading_digits(s);
     if n == 0 {
@@ -36,7 +36,7 @@ fn digits_value(s: &[u8], minus: bool) -> Value
 }
 
 fn integer_value(s: &[u8]) -> Value
-    ensures { result ≡ integerValue s.now }
+    ensures { result ≡ integer_value s.now }
 {
     if s.len() == 0 {
         return Value::Invalid;
@@ -51,7 +51,7 @@ fn integer_value(s: &[u8]) -> Value
 }
 
 fn string_value(s: &[u8], start: usize) -> Value
-    ensures { result ≡ stringValue start s.now }
+    ensures { result ≡ string_value start s.now }
 {
     let n = text::closing_quote(s);
     if n == s.len() {
@@ -67,7 +67,7 @@ fn string_value(s: &[u8], start: usize) -> Value
 
 fn value_from(s: &[u8], start: usize) -> Value
     requires { start + length s.now < 2 ^ 64 }
-    ensures { result ≡ valueFrom start s.now }
+    ensures { result ≡ value_from start s.now }
 {
     if s.len() == 0 {
         return Value::Invalid;
@@ -80,7 +80,7 @@ fn value_from(s: &[u8], start: usize) -> Value
 
 pub fn field_value(f: &[u8], start: usize) -> Value
     requires { start + length f.now < 2 ^ 64 }
-    ensures { result ≡ fieldValue start f.now }
+    ensures { result ≡ field_value start f.now }
 {
     let n = ascii::leading_spaces(f);
     value_from(&f[n..], start + n)

@@ -8,8 +8,8 @@ mod field;
 mod text;
 
 ghost use Rattle.std.specs.Prelude.{◌≡◌, [], cond, ◌*◌, ◌/◌, ltb, length, take, drop};
-ghost use Rattle.card.specs.Record.{cardAt, isEnd, hasValue, nameOf};
-ghost use Rattle.card.specs.Value.{valueOf};
+ghost use Rattle.card.specs.Record.{card_at, is_end, has_value, name_of};
+ghost use Rattle.card.specs.Value.{value_of};
 
 // What a record's value field says. A string is the stretch of the header between its quotes, with
 // trailing spaces off and doubled quotes still doubled. `Invalid` is an unreadable value.
@@ -34,21 +34,21 @@ fn card_buf(header: &[u8], number: usize) -> &[u8]
 
 // Whether the record is END.
 pub fn is_end(header: &[u8], number: usize) -> bool
-    ensures { result ≡ isEnd (cardAt header.now number) }
+    ensures { result ≡ is_end (card_at header.now number) }
 {
     text::end_card(card_buf(header, number))
 }
 
 // Whether the record holds a value.
 pub fn has_value(header: &[u8], number: usize) -> bool
-    ensures { result ≡ hasValue (cardAt header.now number) }
+    ensures { result ≡ has_value (card_at header.now number) }
 {
     text::value_indicator(card_buf(header, number))
 }
 
 // The record's name, a part of the header; empty for a record that holds no value.
 pub fn name(header: &[u8], number: usize) -> &[u8]
-    ensures { result.now ≡ nameOf (cardAt header.now number) }
+    ensures { result.now ≡ name_of (card_at header.now number) }
 {
     let card = card_buf(header, number);
     if card.len() < 80 {
@@ -63,7 +63,7 @@ pub fn name(header: &[u8], number: usize) -> &[u8]
 
 // The record's value.
 pub fn parse_value(header: &[u8], number: usize) -> Value
-    ensures { result ≡ valueOf header.now number }
+    ensures { result ≡ value_of header.now number }
 {
     let card = card_buf(header, number);
     if card.len() < 80 {

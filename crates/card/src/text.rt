@@ -2,7 +2,7 @@
 // bytes.
 ghost use Rattle.std.specs.Prelude.{◌≡◌, ◌+◌, eqb, get_or};
 ghost use Rattle.card.specs.Ends.{follows, closing};
-ghost use Rattle.card.specs.Record.{isEnd, hasValue};
+ghost use Rattle.card.specs.Record.{is_end, has_value};
 
 // Whether these bytes may come after a value.
 pub fn may_follow(s: &[u8]) -> bool
@@ -45,7 +45,7 @@ pub fn closing_quote(s: &[u8]) -> usize
 
 // Whether a record's bytes are END.
 pub fn end_card(s: &[u8]) -> bool
-    ensures { result ≡ isEnd s.now }
+    ensures { result ≡ is_end s.now }
 {
     if s.len() != 80 {
         return false;
@@ -64,7 +64,7 @@ pub fn end_card(s: &[u8]) -> bool
 
 // Whether a record's bytes 9 and 10 are `= `.
 pub fn value_indicator(s: &[u8]) -> bool
-    ensures { result ≡ hasValue s.now }
+    ensures { result ≡ has_value s.now }
 {
     if s.len() < 10 {
         return false;

@@ -12,71 +12,71 @@ use borrow.Author.Tests.{leb-true, lt-leb}
 use Rattle.ascii.proofs.Cases.{either}
 use Rattle.cases.specs.declared.count.Tally.{Tally}
 use Rattle.cases.specs.declared.count.Case.TheVariants.{Whole, Cut}
-use Rattle.cases.specs.Cases.{stepsAt, textAt, caseEnd, caseOf, answer, counted, ended, tallied}
+use Rattle.cases.specs.Cases.{steps_at, text_at, case_end, case_of, answer, counted, ended, tallied}
 
 -- a case as the code has it
 pub record IsWhole (b : List ℕ) (s t e : ℕ) : Type 0 where
-  pub test : leb (caseEnd b) (length b) ≡ true
-  pub steps : s ≡ stepsAt b
-  pub text : t ≡ textAt b
-  pub end : e ≡ caseEnd b
+  pub test : leb (case_end b) (length b) ≡ true
+  pub steps : s ≡ steps_at b
+  pub text : t ≡ text_at b
+  pub end : e ≡ case_end b
 
-pub is-whole : (b : List ℕ) (s t e : ℕ) → Whole s t e ≡ caseOf b → IsWhole b s t e
-is-whole b s t e h =
-    either (leb (caseEnd b) (length b))
-    (λ y. let q : Whole s t e ≡ Whole (stepsAt b) (textAt b) (caseEnd b) = rw y at h in record { test = y; steps = cc; text = cc; end = cc })
+pub is_whole : (b : List ℕ) (s t e : ℕ) → Whole s t e ≡ case_of b → IsWhole b s t e
+is_whole b s t e h =
+    either (leb (case_end b) (length b))
+    (λ y. let q : Whole s t e ≡ Whole (steps_at b) (text_at b) (case_end b) = rw y at h in record { test = y; steps = cc; text = cc; end = cc })
     (λ y. let q : Whole s t e ≡ Cut = rw y at h in let z : ◌≡◌ {A = ℕ} 0 1 = cc in absurd (omega arith))
 
-pub is-cut : (b : List ℕ) → Cut ≡ caseOf b → leb (caseEnd b) (length b) ≡ false
-is-cut b h =
-    either (leb (caseEnd b) (length b))
-    (λ y. let q : Cut ≡ Whole (stepsAt b) (textAt b) (caseEnd b) = rw y at h in let z : ◌≡◌ {A = ℕ} 0 1 = cc in absurd (omega arith))
+pub is_cut : (b : List ℕ) → Cut ≡ case_of b → leb (case_end b) (length b) ≡ false
+is_cut b h =
+    either (leb (case_end b) (length b))
+    (λ y. let q : Cut ≡ Whole (steps_at b) (text_at b) (case_end b) = rw y at h in let z : ◌≡◌ {A = ℕ} 0 1 = cc in absurd (omega arith))
     (λ y. y)
 
 -- no whole case
-pub tallied-ends : (n : ℕ) (t : Tally) (b : List ℕ) → leb (caseEnd b) (length b) ≡ false → tallied n t b ≡ ended t (length b)
+pub tallied_ends : (n : ℕ) (t : Tally) (b : List ℕ) → leb (case_end b) (length b) ≡ false → tallied n t b ≡ ended t (length b)
 unfolding tallied
-tallied-ends zero t b h = refl
-tallied-ends (suc n) t b h = rw h
+tallied_ends zero t b h = refl
+tallied_ends (suc n) t b h = rw h
 
 -- the bytes are enough cases
 enough : (n m : ℕ) (t : Tally) (b : List ℕ) → length b ≤ n → length b ≤ m → tallied n t b ≡ tallied m t b
 unfolding tallied
-enough zero m t b h k = sym (tallied-ends m t b (lt-leb (caseEnd b) (length b) (omega arith)))
-enough (suc n) zero t b h k = tallied-ends (suc n) t b (lt-leb (caseEnd b) (length b) (omega arith))
+enough zero m t b h k = sym (tallied_ends m t b (lt-leb (case_end b) (length b) (omega arith)))
+enough (suc n) zero t b h k = tallied_ends (suc n) t b (lt-leb (case_end b) (length b) (omega arith))
 enough (suc n) (suc m) t b h k =
-    either (leb (caseEnd b) (length b))
+    either (leb (case_end b) (length b))
     (λ y.
-    let z = leb-true (caseEnd b) (length b) y in
+    let z = leb-true (case_end b) (length b) y in
     rw y
-    (enough n m (counted t (answer b (stepsAt b) (textAt b) (caseEnd b))) (drop (caseEnd b) b) (omega (arith, length-drop (caseEnd b) b)) (omega (arith, length-drop (caseEnd b) b))))
+    (enough n m (counted t (answer b (steps_at b) (text_at b) (case_end b))) (drop (case_end b) b) (omega (arith, length-drop (case_end b) b)) (omega (arith, length-drop (case_end b) b))))
     (λ y. rw y)
 
 -- a whole case
-pub tallied-next : (n : ℕ) (t : Tally) (b : List ℕ) → length b ≤ n → leb (caseEnd b) (length b) ≡ true
-    → tallied n t b ≡ tallied (n - caseEnd b) (counted t (answer b (stepsAt b) (textAt b) (caseEnd b))) (drop (caseEnd b) b)
+pub tallied_next : (n : ℕ) (t : Tally) (b : List ℕ) → length b ≤ n → leb (case_end b) (length b) ≡ true
+    → tallied n t b ≡ tallied (n - case_end b) (counted t (answer b (steps_at b) (text_at b) (case_end b))) (drop (case_end b) b)
 unfolding tallied
-tallied-next zero t b h y = absurd (omega (arith, leb-true (caseEnd b) (length b) y))
-tallied-next (suc n) t b h y =
-    let z = leb-true (caseEnd b) (length b) y in
+tallied_next zero t b h y = absurd (omega (arith, leb-true (case_end b) (length b) y))
+tallied_next (suc n) t b h y =
+    let z = leb-true (case_end b) (length b) y in
     rw y
-    (enough n (suc n - caseEnd b) (counted t (answer b (stepsAt b) (textAt b) (caseEnd b))) (drop (caseEnd b) b)
-    (omega (arith, length-drop (caseEnd b) b)) (omega (arith, length-drop (caseEnd b) b)))
+    (enough n (suc n - case_end b) (counted t (answer b (steps_at b) (text_at b) (case_end b))) (drop (case_end b) b)
+    (omega (arith, length-drop (case_end b) b)) (omega (arith, length-drop (case_end b) b)))
 
 -- one turn of the loop: the case at a place of the file, with the answer r
-pub tallied-turn : (f : List ℕ) (at : ℕ) (t u : Tally) (steps text end : ℕ) (r : Bool) → IsWhole (drop at f) steps text end
+pub tallied_turn : (f : List ℕ) (at : ℕ) (t u : Tally) (steps text end : ℕ) (r : Bool) → IsWhole (drop at f) steps text end
     → r ≡ answer (drop at f) steps text end → u ≡ counted t r → tallied (length f - (at + end)) u (drop (at + end) f) ≡ tallied (length f - at) t (drop at f)
-tallied-turn f at t u steps text end r w a e =
+tallied_turn f at t u steps text end r w a e =
     let b = drop at f in
-    let sum : length f - at - caseEnd b ≡ length f - (at + caseEnd b) = omega arith in
-    rw (e, a, w.steps, w.text, w.end, ← sum, ← drop-drop (caseEnd b) at f)
-    (sym (tallied-next (length f - at) t b (omega (arith, length-drop at f)) w.test))
+    let sum : length f - at - case_end b ≡ length f - (at + case_end b) = omega arith in
+    rw (e, a, w.steps, w.text, w.end, ← sum, ← drop-drop (case_end b) at f)
+    (sym (tallied_next (length f - at) t b (omega (arith, length-drop at f)) w.test))
 
 -- what a count comes to: no more cases differ than there are
-pub counted-cases : (t : Tally) (s : Bool) → (counted t s).cases ≡ t.cases + 1
-counted-cases t true = refl
-counted-cases t false = refl
+pub counted_cases : (t : Tally) (s : Bool) → (counted t s).cases ≡ t.cases + 1
+counted_cases t true = refl
+counted_cases t false = refl
 
-pub counted-differ : (t : Tally) (s : Bool) → (counted t s).differ ≤ t.differ + 1
-counted-differ t true = omega arith
-counted-differ t false = omega arith
+pub counted_differ : (t : Tally) (s : Bool) → (counted t s).differ ≤ t.differ + 1
+counted_differ t true = omega arith
+counted_differ t false = omega arith

@@ -9,51 +9,51 @@ use lib.Dec.{eqb}
 use lib.ListN.{length, length-append}
 use borrow.Author.Tests.{eq-eqb, ne_eqb}
 use Rattle.ascii.specs.Text.{bytes}
-use Rattle.ascii.proofs.Cases.{by-test}
-use Rattle.ascii.specs.Number.{decimalText}
-use Rattle.ascii.proofs.Lengths.{decimal-length}
+use Rattle.ascii.proofs.Cases.{by_test}
+use Rattle.ascii.specs.Number.{decimal_text}
+use Rattle.ascii.proofs.Lengths.{decimal_length}
 use Rattle.cases.specs.declared.count.Tally.{Tally}
-use Rattle.cases.specs.Report.{countsText, differText, cutText, reportText}
+use Rattle.cases.specs.Report.{counts_text, differ_text, cut_text, report_text}
 
 module _ (t : Tally) where
-  pub differ-none : t.differ ≡ 0 → bytes " differ" ≡ differText t
-  unfolding differText
-  differ-none h = rw (eq-eqb t.differ 0 h)
+  pub differ_none : t.differ ≡ 0 → bytes " differ" ≡ differ_text t
+  unfolding differ_text
+  differ_none h = rw (eq-eqb t.differ 0 h)
 
-  pub differ-one : t.differ ≡ 1 → bytes " differs: case " ++ decimalText t.first ≡ differText t
-  unfolding differText
-  differ-one h = rw h
+  pub differ_one : t.differ ≡ 1 → bytes " differs: case " ++ decimal_text t.first ≡ differ_text t
+  unfolding differ_text
+  differ_one h = rw h
 
-  pub differ-several : (t.differ ≡ 0 → ⊥) → (t.differ ≡ 1 → ⊥) → bytes " differ: case " ++ (decimalText t.first ++ bytes " first") ≡ differText t
-  unfolding differText
-  differ-several h k = rw (ne_eqb t.differ 0 h, ne_eqb t.differ 1 k)
+  pub differ_several : (t.differ ≡ 0 → ⊥) → (t.differ ≡ 1 → ⊥) → bytes " differ: case " ++ (decimal_text t.first ++ bytes " first") ≡ differ_text t
+  unfolding differ_text
+  differ_several h k = rw (ne_eqb t.differ 0 h, ne_eqb t.differ 1 k)
 
-  pub cut-none : t.cut ≡ false → [] ≡ cutText t
-  unfolding cutText
-  cut-none h = rw h
+  pub cut_none : t.cut ≡ false → [] ≡ cut_text t
+  unfolding cut_text
+  cut_none h = rw h
 
-  pub cut-told : t.cut ≡ true → bytes "; case " ++ (decimalText (t.cases + 1) ++ bytes " is cut") ≡ cutText t
-  unfolding cutText
-  cut-told h = rw h
+  pub cut_told : t.cut ≡ true → bytes "; case " ++ (decimal_text (t.cases + 1) ++ bytes " is cut") ≡ cut_text t
+  unfolding cut_text
+  cut_told h = rw h
 
-  pub counts-room : length (countsText t) ≤ 48
-  unfolding countsText bytes
-  counts-room = simp length-append (omega (arith, decimal-length t.cases, decimal-length t.differ))
+  pub counts_room : length (counts_text t) ≤ 48
+  unfolding counts_text bytes
+  counts_room = simp length-append (omega (arith, decimal_length t.cases, decimal_length t.differ))
 
-  pub differ-room : length (differText t) ≤ 40
-  unfolding differText bytes
-  differ-room =
-      by-test (λ (l : List ℕ). length l ≤ 40) (eqb t.differ 0) (λ _. omega arith)
+  pub differ_room : length (differ_text t) ≤ 40
+  unfolding differ_text bytes
+  differ_room =
+      by_test (λ (l : List ℕ). length l ≤ 40) (eqb t.differ 0) (λ _. omega arith)
       (λ _.
-      by-test (λ (l : List ℕ). length l ≤ 40) (eqb t.differ 1)
-      (λ _. simp length-append (omega (arith, decimal-length t.first)))
-      (λ _. simp length-append (omega (arith, decimal-length t.first))))
+      by_test (λ (l : List ℕ). length l ≤ 40) (eqb t.differ 1)
+      (λ _. simp length-append (omega (arith, decimal_length t.first)))
+      (λ _. simp length-append (omega (arith, decimal_length t.first))))
 
-  pub cut-room : length (cutText t) ≤ 40
-  unfolding cutText bytes
-  cut-room =
-      by-test (λ (l : List ℕ). length l ≤ 40) t.cut (λ _. simp length-append (omega (arith, decimal-length (t.cases + 1)))) (λ _. omega arith)
+  pub cut_room : length (cut_text t) ≤ 40
+  unfolding cut_text bytes
+  cut_room =
+      by_test (λ (l : List ℕ). length l ≤ 40) t.cut (λ _. simp length-append (omega (arith, decimal_length (t.cases + 1)))) (λ _. omega arith)
 
-  pub report-room : length (reportText t) ≤ 130
-  unfolding reportText
-  report-room = simp length-append (omega (arith, counts-room, differ-room, cut-room))
+  pub report_room : length (report_text t) ≤ 130
+  unfolding report_text
+  report_room = simp length-append (omega (arith, counts_room, differ_room, cut_room))

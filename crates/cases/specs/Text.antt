@@ -1,10 +1,10 @@
 -- The text that `replay` prints (FORMAT.md, section 17).
 -- Assumes nothing.
 use Rattle.std.specs.Prelude.{ℕ, List, take}
-use Rattle.output.specs.Cells.{fileLimit}
-use Rattle.output.specs.Replay.{replayLines}
-use Rattle.output.specs.Page.{linesText}
+use Rattle.output.specs.Cells.{file_limit}
+use Rattle.output.specs.Replay.{replay_lines}
+use Rattle.output.specs.Page.{lines_text}
 
 -- of a file f and the steps s, of both the bytes that are looked at
-abbrev pub replayText : List ℕ → List ℕ → List ℕ
-replayText f s = linesText (replayLines (take fileLimit f) (take fileLimit s))
+abbrev pub replay_text : List ℕ → List ℕ → List ℕ
+replay_text f s = lines_text (replay_lines (take file_limit f) (take file_limit s))

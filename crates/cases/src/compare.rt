@@ -1,10 +1,10 @@
 // Whether a text is what `replay` prints of a table and a file of steps: the text beside the lines, page by page.
 ghost use Rattle.std.specs.Prelude.{◌≡◌, ◌+◌, ◌≤◌, length, take};
 ghost use Rattle.ascii.specs.Text.{same};
-ghost use Rattle.output.specs.Cells.{fileLimit};
-ghost use Rattle.output.specs.State.{fileLeft};
-ghost use Rattle.output.specs.Page.{pageRoom, linesText, pageText, pageRest, Whole};
-ghost use Rattle.cases.specs.Text.{replayText};
+ghost use Rattle.output.specs.Cells.{file_limit};
+ghost use Rattle.output.specs.State.{file_left};
+ghost use Rattle.output.specs.Page.{page_room, lines_text, page_text, page_rest, Whole};
+ghost use Rattle.cases.specs.Text.{replay_text};
 
 use layout::BinTable;
 use output::{PAGE_ROOM, State};
@@ -19,19 +19,19 @@ struct Compared {
 
 // The buffer of a page. Its contents do not matter, and the proof of a caller is shorter without them.
 fn zeros() -> [u8; PAGE_ROOM]
-    ensures { pageRoom ≡ length result }
+    ensures { page_room ≡ length result }
 {
     [0; PAGE_ROOM]
 }
 
 // The next page beside a text.
 fn compare_page(file: &[u8], layout: BinTable, steps: &[u8], state: State, text: &[u8]) -> Compared
-    ensures len { result.len ≡ length (pageText pageRoom (fileLeft file.now layout steps.now state)) }
-    ensures state { fileLeft file.now layout steps.now result.state
-        ≡ pageRest pageRoom (fileLeft file.now layout steps.now state) }
-    ensures whole { Whole (length file.now + 128) pageRoom result.len (fileLeft file.now layout steps.now state) }
+    ensures len { result.len ≡ length (page_text page_room (file_left file.now layout steps.now state)) }
+    ensures state { file_left file.now layout steps.now result.state
+        ≡ page_rest page_room (file_left file.now layout steps.now state) }
+    ensures whole { Whole (length file.now + 128) page_room result.len (file_left file.now layout steps.now state) }
     ensures begins { result.begins ≡ same (take result.len text.now)
-        (pageText pageRoom (fileLeft file.now layout steps.now state)) }
+        (page_text page_room (file_left file.now layout steps.now state)) }
 {
     let mut out = zeros();
     let page = output::next_page(file, layout, steps, state, &mut out);
@@ -47,8 +47,8 @@ fn compare_page(file: &[u8], layout: BinTable, steps: &[u8], state: State, text:
 
 // Whether a text is what is left to print: page after page stands in it, and after the last one nothing is left of it.
 fn same_pages(file: &[u8], layout: BinTable, steps: &[u8], state: State, text: &[u8]) -> bool
-    requires { length file.now ≤ fileLimit }
-    ensures { result ≡ same text.now (linesText (fileLeft file.now layout steps.now state)) }
+    requires { length file.now ≤ file_limit }
+    ensures { result ≡ same text.now (lines_text (file_left file.now layout steps.now state)) }
 {
     let mut at: usize = 0;
     let mut current = state;
@@ -67,7 +67,7 @@ fn same_pages(file: &[u8], layout: BinTable, steps: &[u8], state: State, text: &
 
 // Of both files the bytes are taken that `replay` looks at.
 pub fn same_text(file: &[u8], steps: &[u8], expected: &[u8]) -> bool
-    ensures { result ≡ same expected.now (replayText file.now steps.now) }
+    ensures { result ≡ same expected.now (replay_text file.now steps.now) }
 {
     let table = output::first_bytes(file);
     let start = output::replay_start(table, steps);

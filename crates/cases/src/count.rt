@@ -2,7 +2,7 @@
 // table, of steps and of the text that is expected.
 ghost use Rattle.std.specs.Prelude.{◌≡◌, ◌+◌, ◌*◌, ◌≤◌, ◌<◌, ◌^◌, length};
 ghost use Rattle.cell.specs.Item.{word};
-ghost use Rattle.cases.specs.Cases.{caseOf, answer, counted, ended, tallyOf};
+ghost use Rattle.cases.specs.Cases.{case_of, answer, counted, ended, tally_of};
 
 use super::compare;
 
@@ -37,7 +37,7 @@ fn length_at(bytes: &[u8], at: u8) -> usize
 
 // The case at the front of some bytes.
 fn first_case(bytes: &[u8]) -> Case
-    ensures { result ≡ caseOf bytes.now }
+    ensures { result ≡ case_of bytes.now }
 {
     if bytes.len() < 12 {
         return Case::Cut;
@@ -106,7 +106,7 @@ fn end_cases(tally: Tally, left: usize) -> Tally
 
 // Runs every case.
 pub fn run_cases(file: &[u8]) -> Tally
-    ensures value { result ≡ tallyOf file.now }
+    ensures value { result ≡ tally_of file.now }
     ensures few { 12 * result.cases ≤ length file.now }
 {
     let mut tally = Tally {

@@ -1,31 +1,31 @@
 // The line that is printed, in a buffer that has room for it.
 ghost use Rattle.std.specs.Prelude.{◌≡◌, ◌+◌, ◌≤◌, ◌<◌, ◌^◌, length};
-ghost use Rattle.ascii.specs.Buffer.{putIn};
-ghost use Rattle.ascii.specs.Number.{decimalText};
-ghost use Rattle.cases.specs.Report.{countsText, differText, cutText, reportText};
+ghost use Rattle.ascii.specs.Buffer.{put_in};
+ghost use Rattle.ascii.specs.Number.{decimal_text};
+ghost use Rattle.cases.specs.Report.{counts_text, differ_text, cut_text, report_text};
 
 use crate::count::Tally;
 
 fn put(out: &mut [u8], at: usize, text: &[u8]) -> usize
     requires { at + length text.now ≤ length out.old }
     ensures place { result ≡ at + length text.now }
-    ensures buffer { out.new ≡ putIn out.old at text.now }
+    ensures buffer { out.new ≡ put_in out.old at text.now }
 {
     ascii::buffer::put(out, at, text)
 }
 
 fn put_number(out: &mut [u8], at: usize, number: u64) -> usize
     requires { at + 20 ≤ length out.old }
-    ensures place { result ≡ at + length (decimalText number) }
-    ensures buffer { out.new ≡ putIn out.old at (decimalText number) }
+    ensures place { result ≡ at + length (decimal_text number) }
+    ensures buffer { out.new ≡ put_in out.old at (decimal_text number) }
 {
     ascii::digits::put_decimal(out, at, number)
 }
 
 fn put_counts(out: &mut [u8], at: usize, tally: Tally) -> usize
     requires { at + 48 ≤ length out.old }
-    ensures place { result ≡ at + length (countsText tally) }
-    ensures buffer { out.new ≡ putIn out.old at (countsText tally) }
+    ensures place { result ≡ at + length (counts_text tally) }
+    ensures buffer { out.new ≡ put_in out.old at (counts_text tally) }
 {
     let word = put_number(out, at, tally.cases);
     let differ = put(out, word, b" cases, ");
@@ -34,8 +34,8 @@ fn put_counts(out: &mut [u8], at: usize, tally: Tally) -> usize
 
 fn put_differ(out: &mut [u8], at: usize, tally: Tally) -> usize
     requires { at + 40 ≤ length out.old }
-    ensures place { result ≡ at + length (differText tally) }
-    ensures buffer { out.new ≡ putIn out.old at (differText tally) }
+    ensures place { result ≡ at + length (differ_text tally) }
+    ensures buffer { out.new ≡ put_in out.old at (differ_text tally) }
 {
     if tally.differ == 0 {
         return put(out, at, b" differ");
@@ -51,8 +51,8 @@ fn put_differ(out: &mut [u8], at: usize, tally: Tally) -> usize
 
 fn put_cut(out: &mut [u8], at: usize, tally: Tally) -> usize
     requires { (at + 40 ≤ length out.old) × (tally.cases + 1 < 2 ^ 64) }
-    ensures place { result ≡ at + length (cutText tally) }
-    ensures buffer { out.new ≡ putIn out.old at (cutText tally) }
+    ensures place { result ≡ at + length (cut_text tally) }
+    ensures buffer { out.new ≡ put_in out.old at (cut_text tally) }
 {
     if !tally.cut {
         return at;
@@ -64,8 +64,8 @@ fn put_cut(out: &mut [u8], at: usize, tally: Tally) -> usize
 
 pub fn put_report(out: &mut [u8], tally: Tally) -> usize
     requires { (130 ≤ length out.old) × (tally.cases + 1 < 2 ^ 64) }
-    ensures place { result ≡ length (reportText tally) }
-    ensures buffer { out.new ≡ putIn out.old 0 (reportText tally) }
+    ensures place { result ≡ length (report_text tally) }
+    ensures buffer { out.new ≡ put_in out.old 0 (report_text tally) }
 {
     let differ = put_counts(out, 0, tally);
     let cut = put_differ(out, differ, tally);

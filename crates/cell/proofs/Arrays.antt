@@ -11,20 +11,20 @@ use Rattle.tform.specs.Width.{items}
 use Rattle.cell.specs.declared.Field.TheVariants.{Items, OutsideHeap}
 use Rattle.cell.specs.Item.{width}
 use Rattle.cell.specs.Field.{array}
-use Rattle.cell.proofs.Widths.{width-pos}
+use Rattle.cell.proofs.Widths.{width_pos}
 
 module _ (theap end : ℕ) (ty : VariableArrayTy) (n o : ℕ) where
-  pub array-sound : n ≢ 0 → theap + o + items ty n * width ty ≤ end → Items ty (theap + o) (items ty n) ≡ array theap end ty n o
+  pub array_sound : n ≢ 0 → theap + o + items ty n * width ty ≤ end → Items ty (theap + o) (items ty n) ≡ array theap end ty n o
   unfolding array
-  array-sound h s = rw (ne_eqb n 0 h, le-leb (theap + o + items ty n * width ty) end s)
+  array_sound h s = rw (ne_eqb n 0 h, le-leb (theap + o + items ty n * width ty) end s)
 
-  pub array-outside : n ≢ 0 → end < theap + o + items ty n * width ty → OutsideHeap ≡ array theap end ty n o
+  pub array_outside : n ≢ 0 → end < theap + o + items ty n * width ty → OutsideHeap ≡ array theap end ty n o
   unfolding array
-  array-outside h s = rw (ne_eqb n 0 h, lt-leb (theap + o + items ty n * width ty) end s)
+  array_outside h s = rw (ne_eqb n 0 h, lt-leb (theap + o + items ty n * width ty) end s)
 
   -- how many items there is room for says whether the array ends past the heap
   pub too_many : (end - theap - o) / width ty < items ty n → end < theap + o + items ty n * width ty
-  too_many h = omega (arith, (div-lt_iff_lt-mul (width-pos ty)).0 h)
+  too_many h = omega (arith, (div-lt_iff_lt-mul (width_pos ty)).0 h)
 
   pub enough : theap ≤ end → o ≤ end - theap → items ty n ≤ (end - theap - o) / width ty → theap + o + items ty n * width ty ≤ end
-  enough t s h = omega (arith, t, s, (le-div_iff_mul-le (width-pos ty)).0 h)
+  enough t s h = omega (arith, t, s, (le-div_iff_mul-le (width_pos ty)).0 h)

@@ -11,26 +11,26 @@ use borrow.Author.Tests.{eq-eqb}
 use Rattle.ascii.specs.Text.{bytes}
 use Rattle.tform.specs.declared.TFormType.{TFormType}
 use Rattle.tform.specs.declared.TFormType.TheVariants as F
-use Rattle.tform.specs.Width.{among, letterWidth, items, fieldItems, fieldBytes}
+use Rattle.tform.specs.Width.{among, letter_width, items, field_items, field_bytes}
 use Rattle.layout.specs.declared.Column.{Column}
-use Rattle.layout.specs.Layout.{columnBytes}
-use Rattle.cell.specs.Field.{fieldBy, field, sizeOf}
-use Rattle.cell.proofs.Widths.{width-pos}
+use Rattle.layout.specs.Layout.{column_bytes}
+use Rattle.cell.specs.Field.{field_by, field, size_of}
+use Rattle.cell.proofs.Widths.{width_pos}
 
-pub field-none : (a : List ℕ) (p : ℕ) (heap : Bool) (theap end : ℕ) (f : TFormType) (n : ℕ) → fieldItems f n ≡ 0
-    → sizeOf (fieldBy a p f n heap theap end) ≡ 0
-field-none a p heap theap end (F.Items ty) n e = e
-field-none a p heap theap end (F.P ty) n e = rw (eq-eqb n 0 e)
-field-none a p heap theap end (F.Q ty) n e = rw (eq-eqb n 0 e)
+pub field_none : (a : List ℕ) (p : ℕ) (heap : Bool) (theap end : ℕ) (f : TFormType) (n : ℕ) → field_items f n ≡ 0
+    → size_of (field_by a p f n heap theap end) ≡ 0
+field_none a p heap theap end (F.Items ty) n e = e
+field_none a p heap theap end (F.P ty) n e = rw (eq-eqb n 0 e)
+field_none a p heap theap end (F.Q ty) n e = rw (eq-eqb n 0 e)
 
-no-items : (f : TFormType) (n : ℕ) → fieldBytes f n ≡ 0 → fieldItems f n ≡ 0
-unfolding letterWidth among bytes
-no-items (F.Items ty) n e = omega (arith, e, mul-le-mul_left (items ty n) (width-pos ty))
-no-items (F.P ty) n e = omega (arith, e)
-no-items (F.Q ty) n e = omega (arith, e)
+no_items : (f : TFormType) (n : ℕ) → field_bytes f n ≡ 0 → field_items f n ≡ 0
+unfolding letter_width among bytes
+no_items (F.Items ty) n e = omega (arith, e, mul-le-mul_left (items ty n) (width_pos ty))
+no_items (F.P ty) n e = omega (arith, e)
+no_items (F.Q ty) n e = omega (arith, e)
 
-pub empty-field : (a : List ℕ) (p : ℕ) (column : Column) (heap : Bool) (theap end : ℕ) → columnBytes column ≡ 0
-    → sizeOf (field a p column heap theap end) ≡ 0
+pub empty_field : (a : List ℕ) (p : ℕ) (column : Column) (heap : Bool) (theap end : ℕ) → column_bytes column ≡ 0
+    → size_of (field a p column heap theap end) ≡ 0
 unfolding field
-empty-field a p column heap theap end e =
-    field-none a p heap theap end column.form column.count (no-items column.form column.count e)
+empty_field a p column heap theap end e =
+    field_none a p heap theap end column.form column.count (no_items column.form column.count e)

@@ -9,10 +9,10 @@ use mir.Val.{SFits, to_z, of_z}
 use mir.ValLaws.{to_z-of_z}
 use Rattle.tform.specs.declared.VariableArrayTy.{VariableArrayTy}
 use Rattle.cell.specs.declared.DataValue.{DataValue}
-use Rattle.cell.specs.Item.{rawItem}
+use Rattle.cell.specs.Item.{raw_item}
 
-pub known : (a : List ℕ) (p : ℕ) {t : VariableArrayTy} {v : DataValue} (u : VariableArrayTy) → t ≡ u → v ≡ rawItem u a p
-    → v ≡ rawItem t a p
+pub known : (a : List ℕ) (p : ℕ) {t : VariableArrayTy} {v : DataValue} (u : VariableArrayTy) → t ≡ u → v ≡ raw_item u a p
+    → v ≡ raw_item t a p
 known a p u e h = rw e h
 
 pub signed : (w : Width) {z : ℤ} {n m : ℕ} → SFits w z → z ≡ to_z w n → n ≡ m → to_z w (of_z w z) ≡ to_z w m

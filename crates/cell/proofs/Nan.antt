@@ -8,11 +8,11 @@ use lib.Ieee.{Float, nan, inf, fin, Format, binary32, binary64, of_bits, nan_bit
 use lib.Ieee.Bits.{nan_bits_is, nan_bits_above}
 use borrow.Author.Tests.{lt-ltb, le-ltb}
 
-is-nan : (x : Float) → is_nan x ≡ true → x ≡ nan
+is_nan_lem : (x : Float) → is_nan x ≡ true → x ≡ nan
 unfolding is_nan
-is-nan nan e = refl
-is-nan (inf s) e = cc
-is-nan (fin s m e) q = cc
+is_nan_lem nan e = refl
+is_nan_lem (inf s) e = cc
+is_nan_lem (fin s m e) q = cc
 
 zero_by_zero : (f : Format) → div f (of_bits f 0) (of_bits f 0) ≡ nan
 unfolding div of_bits
@@ -21,7 +21,7 @@ zero_by_zero binary64 = refl
 
 module _ (f : Format) (n : ℕ) where
   pub above : ones f * hid f < n % top f → div f (of_bits f 0) (of_bits f 0) ≡ of_bits f n
-  above h = zero_by_zero f ∙ sym (is-nan (of_bits f n) (sym (nan_bits_is f n) ∙ nan_bits_above f n ∙ lt-ltb _ _ h))
+  above h = zero_by_zero f ∙ sym (is_nan_lem (of_bits f n) (sym (nan_bits_is f n) ∙ nan_bits_above f n ∙ lt-ltb _ _ h))
 
   pub below : n % top f ≤ ones f * hid f → T (not (nan_bits f n))
   below h = rw (nan_bits_above f n, le-ltb _ _ h) tt

@@ -14,11 +14,11 @@ use Rattle.tform.specs.declared.VariableArrayTy.{VariableArrayTy}
 use Rattle.tform.specs.declared.VariableArrayTy.TheVariants as T
 use Rattle.tform.specs.declared.TFormType.{TFormType}
 use Rattle.tform.specs.declared.TFormType.TheVariants as F
-use Rattle.tform.specs.Width.{among, letterWidth, fieldBytes}
+use Rattle.tform.specs.Width.{among, letter_width, field_bytes}
 use Rattle.layout.specs.declared.Column.{Column}
-use Rattle.layout.specs.Layout.{columnBytes}
-use Rattle.cell.specs.Item.{word, width, rawItem, valueIn, item}
-use Rattle.cell.specs.Field.{field32, field64, fieldBy, field}
+use Rattle.layout.specs.Layout.{column_bytes}
+use Rattle.cell.specs.Item.{word, width, raw_item, value_in, item}
+use Rattle.cell.specs.Field.{field32, field64, field_by, field}
 
 module _ (a b : List ℕ) where
   -- the two areas have the same k bytes from place p on
@@ -31,8 +31,8 @@ module _ (a b : List ℕ) where
   word_same p (suc k) h =
       ap₂ (λ (x y : ℕ). x * 256 + y) (word_same p k (λ i l u. h i l (omega arith))) (h (p + k) (omega arith) (omega arith))
 
-  raw_same : (ty : VariableArrayTy) (p : ℕ) → SameBytes p (width ty) → rawItem ty a p ≡ rawItem ty b p
-  unfolding letterWidth among bytes
+  raw_same : (ty : VariableArrayTy) (p : ℕ) → SameBytes p (width ty) → raw_item ty a p ≡ raw_item ty b p
+  unfolding letter_width among bytes
   raw_same T.L p h = rw (word_same p 1 h)
   raw_same T.X p h = rw (word_same p 1 h)
   raw_same T.B p h = rw (word_same p 1 h)
@@ -47,13 +47,13 @@ module _ (a b : List ℕ) where
   raw_same T.M p h =
       rw (word_same p 8 (λ i l u. h i l (omega arith)), word_same (p + 8) 8 (λ i l u. h i (omega arith) (omega arith)))
 
-  pub item-same : (column : Column) (ty : VariableArrayTy) (p : ℕ) → SameBytes p (width ty) → item column ty a p ≡ item column ty b p
+  pub item_same : (column : Column) (ty : VariableArrayTy) (p : ℕ) → SameBytes p (width ty) → item column ty a p ≡ item column ty b p
   unfolding item
-  item-same column ty p h = ap (valueIn column) (raw_same ty p h)
+  item_same column ty p h = ap (value_in column) (raw_same ty p h)
 
-  by_form : (f : TFormType) (p n : ℕ) (heap : Bool) (theap end : ℕ) → SameBytes p (fieldBytes f n)
-      → fieldBy a p f n heap theap end ≡ fieldBy b p f n heap theap end
-  unfolding field32 field64 letterWidth among bytes
+  by_form : (f : TFormType) (p n : ℕ) (heap : Bool) (theap end : ℕ) → SameBytes p (field_bytes f n)
+      → field_by a p f n heap theap end ≡ field_by b p f n heap theap end
+  unfolding field32 field64 letter_width among bytes
   by_form (F.Items ty) p n heap theap end h = refl
   by_form (F.P ty) p n heap theap end h =
       either (eqb n 0) (λ z. rw z)
@@ -72,7 +72,7 @@ module _ (a b : List ℕ) where
         word_same (p + 8) 8 (λ i l u. h i (omega arith) (omega arith)),
       ))
 
-  pub field-same : (p : ℕ) (column : Column) (heap : Bool) (theap end : ℕ) → SameBytes p (columnBytes column)
+  pub field_same : (p : ℕ) (column : Column) (heap : Bool) (theap end : ℕ) → SameBytes p (column_bytes column)
       → field a p column heap theap end ≡ field b p column heap theap end
   unfolding field
-  field-same p column heap theap end h = by_form column.form p column.count heap theap end h
+  field_same p column heap theap end h = by_form column.form p column.count heap theap end h

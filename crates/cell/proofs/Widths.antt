@@ -5,19 +5,19 @@ use native.Mathlib.Omega.{arith}
 use Rattle.ascii.specs.Text.{bytes}
 use Rattle.tform.specs.declared.VariableArrayTy.{VariableArrayTy}
 use Rattle.tform.specs.declared.VariableArrayTy.TheVariants as T
-use Rattle.tform.specs.Width.{among, letterWidth}
+use Rattle.tform.specs.Width.{among, letter_width}
 use Rattle.cell.specs.Item.{width}
 
-pub width-pos : (ty : VariableArrayTy) → 1 ≤ width ty
-unfolding letterWidth among bytes
-width-pos T.L = omega arith
-width-pos T.X = omega arith
-width-pos T.B = omega arith
-width-pos T.I = omega arith
-width-pos T.J = omega arith
-width-pos T.K = omega arith
-width-pos T.A = omega arith
-width-pos T.E = omega arith
-width-pos T.D = omega arith
-width-pos T.C = omega arith
-width-pos T.M = omega arith
+pub width_pos : (ty : VariableArrayTy) → 1 ≤ width ty
+unfolding letter_width among bytes
+width_pos T.L = omega arith
+width_pos T.X = omega arith
+width_pos T.B = omega arith
+width_pos T.I = omega arith
+width_pos T.J = omega arith
+width_pos T.K = omega arith
+width_pos T.A = omega arith
+width_pos T.E = omega arith
+width_pos T.D = omega arith
+width_pos T.C = omega arith
+width_pos T.M = omega arith

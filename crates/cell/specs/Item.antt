@@ -8,7 +8,7 @@ use Rattle.std.specs.Int.{w16, w32, w64}
 use Rattle.std.proofs.Common.{to_z}
 use Rattle.tform.specs.declared.VariableArrayTy.{VariableArrayTy}
 use Rattle.tform.specs.declared.VariableArrayTy.TheVariants as T
-use Rattle.tform.specs.Width.{letterWidth, letter}
+use Rattle.tform.specs.Width.{letter_width, letter}
 use Rattle.layout.specs.declared.Column.{Column}
 use Rattle.cell.specs.declared.Logical.{Logical}
 use Rattle.cell.specs.declared.Logical.TheVariants.{Yes, No, Unset, Odd}
@@ -23,35 +23,35 @@ word a p (suc k) = word a p k * 256 + get_or a (p + k) 0
 
 -- the bytes of one item
 abbrev pub width : VariableArrayTy → ℕ
-width ty = letterWidth (letter ty)
+width ty = letter_width (letter ty)
 
 -- an L item: T is yes, F is no, 0 is unset, and any other byte is odd
 unfoldable pub logical : ℕ → Logical
 logical b = cond (eqb b 84) Yes (cond (eqb b 70) No (cond (eqb b 0) Unset (Odd b)))
 
 -- the item at place p as its bytes say it. `to_z` reads bits as two's complement, `of_bits` as an IEEE 754 number
-abbrev pub rawItem : VariableArrayTy → List ℕ → ℕ → DataValue
-rawItem T.L a p = D.Logical (logical (word a p 1))
-rawItem T.X a p = D.Bit (word a p 1)
-rawItem T.B a p = D.UnsignedByte (word a p 1)
-rawItem T.I a p = D.Short (to_z w16 (word a p 2))
-rawItem T.J a p = D.Integer (to_z w32 (word a p 4))
-rawItem T.K a p = D.Long (to_z w64 (word a p 8))
-rawItem T.A a p = D.Character (word a p 1)
-rawItem T.E a p = D.Float (of_bits binary32 (word a p 4)) (word a p 4)
-rawItem T.D a p = D.Double (of_bits binary64 (word a p 8)) (word a p 8)
-rawItem T.C a p =
+abbrev pub raw_item : VariableArrayTy → List ℕ → ℕ → DataValue
+raw_item T.L a p = D.Logical (logical (word a p 1))
+raw_item T.X a p = D.Bit (word a p 1)
+raw_item T.B a p = D.UnsignedByte (word a p 1)
+raw_item T.I a p = D.Short (to_z w16 (word a p 2))
+raw_item T.J a p = D.Integer (to_z w32 (word a p 4))
+raw_item T.K a p = D.Long (to_z w64 (word a p 8))
+raw_item T.A a p = D.Character (word a p 1)
+raw_item T.E a p = D.Float (of_bits binary32 (word a p 4)) (word a p 4)
+raw_item T.D a p = D.Double (of_bits binary64 (word a p 8)) (word a p 8)
+raw_item T.C a p =
     D.ComplexFloat (of_bits binary32 (word a p 4)) (word a p 4) (of_bits binary32 (word a (p + 4) 4)) (word a (p + 4) 4)
-rawItem T.M a p =
+raw_item T.M a p =
     D.ComplexDouble (of_bits binary64 (word a p 8)) (word a p 8) (of_bits binary64 (word a (p + 8) 8)) (word a (p + 8) 8)
 
 -- what a column makes of a raw value: the raw value itself. Scaling and missing values will look at the column here
-abbrev pub valueIn : Column → DataValue → DataValue
-valueIn column raw = raw
+abbrev pub value_in : Column → DataValue → DataValue
+value_in column raw = raw
 
 -- the value of the item of a column at place p
 unfoldable pub item : Column → VariableArrayTy → List ℕ → ℕ → DataValue
-item column ty a p = valueIn column (rawItem ty a p)
+item column ty a p = value_in column (raw_item ty a p)
 
 -- each float of a value is the float of the bits beside it
 abbrev pub OfBits : Format → Float → ℕ → Type 0
@@ -73,5 +73,5 @@ BitsKept (D.VariableLengthArray32 n o) = Unit {0}
 BitsKept (D.VariableLengthArray64 n o) = Unit {0}
 
 -- the cell of zeros that a list is filled with before it is lent
-abbrev pub blankCell : Cell
-blankCell = record { row = 0; column = 0; idx = 0; value = D.Bit 0 }
+abbrev pub blank_cell : Cell
+blank_cell = record { row = 0; column = 0; idx = 0; value = D.Bit 0 }

@@ -5,8 +5,8 @@ pub mod floats;
 pub mod words;
 
 ghost use Rattle.std.specs.Prelude.{◌≡◌};
-ghost use Rattle.cell.specs.Item.{logical, rawItem, valueIn, item, blankCell};
-ghost use Rattle.cell.specs.Field.{noItems, array, field32, field64, field, sizeOf};
+ghost use Rattle.cell.specs.Item.{logical, raw_item, value_in, item, blank_cell};
+ghost use Rattle.cell.specs.Field.{no_items, array, field32, field64, field, size_of};
 
 use layout::Column;
 use tform::{TFormType, VariableArrayTy};
@@ -85,7 +85,7 @@ pub enum Field {
 
 // A cell of zeros, to fill a list with before it is lent.
 pub fn blank_cell() -> Cell
-    ensures { result ≡ blankCell }
+    ensures { result ≡ blank_cell }
 {
     Cell {
         row: 0,
@@ -109,7 +109,7 @@ pub fn read_logical(byte: u8) -> Logical
 // The item at a place, as its bytes say it. All types take theirs of the eight bytes there: one read for all leaves the
 // function small enough to be compiled into the loop of a row read. A call would pass each value through memory.
 fn raw_item(area: &[u8], at: u64, ty: VariableArrayTy) -> DataValue
-    ensures { result ≡ rawItem ty area.now at }
+    ensures { result ≡ raw_item ty area.now at }
 {
     let eight = words::u64_at(area, at, 0);
     // The first four, two and one of them.
@@ -163,7 +163,7 @@ fn raw_item(area: &[u8], at: u64, ty: VariableArrayTy) -> DataValue
 // What a column makes of a raw value: the raw value itself. Scaling and missing values, which depend on the column's
 // keywords, will be here and nowhere else.
 fn value_in(column: Column, raw: DataValue) -> DataValue
-    ensures { result ≡ valueIn column raw }
+    ensures { result ≡ value_in column raw }
 {
     raw
 }
@@ -178,7 +178,7 @@ pub fn read_item(area: &[u8], at: u64, ty: VariableArrayTy, column: Column) -> D
 
 // No item: what an array of count 0 gives, and a field of P or Q with count 0.
 fn no_items(ty: VariableArrayTy) -> Field
-    ensures { result ≡ noItems ty }
+    ensures { result ≡ no_items ty }
 {
     Field::Items { ty, at: 0, n: 0 }
 }
@@ -259,7 +259,7 @@ pub fn read_field(area: &[u8], at: u64, column: Column, heap: bool, theap: u64, 
 
 // How many entries a field has in the row's plain list.
 pub fn field_size(field: Field) -> u64
-    ensures { result ≡ sizeOf field }
+    ensures { result ≡ size_of field }
 {
     match field {
         Field::Items { ty: _, at: _, n } => n,

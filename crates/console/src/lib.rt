@@ -5,8 +5,8 @@
 mod pages;
 
 ghost use Rattle.std.specs.Prelude.{◌≡◌, ◌≤◌, [], length, take};
-ghost use Rattle.output.specs.Cells.{fileLimit};
-ghost use Rattle.output.specs.State.{fileLeft};
+ghost use Rattle.output.specs.Cells.{file_limit};
+ghost use Rattle.output.specs.State.{file_left};
 
 use layout::BinTable;
 use output::{FILE_LIMIT, State};
@@ -16,7 +16,7 @@ use std::io::{Read, Write};
 
 // A buffer for the bytes of a file that are looked at.
 pub fn file_buffer() -> [u8; FILE_LIMIT]
-    ensures { fileLimit ≡ length result }
+    ensures { file_limit ≡ length result }
 {
     [0; FILE_LIMIT]
 }
@@ -68,7 +68,7 @@ pub fn print_pages(
     steps: &[u8],
     state: State,
 ) -> State
-    ensures { fileLeft (take fileLimit file.now) layout (take fileLimit steps.now) result ≡ [] }
+    ensures { file_left (take file_limit file.now) layout (take file_limit steps.now) result ≡ [] }
 {
     pages::print_rest(
         rt,

@@ -2,9 +2,9 @@
 #![tactic(auto)]
 
 ghost use Rattle.std.specs.Prelude.{◌≡◌, get_or};
-ghost use Rattle.cell.specs.Item.{blankCell};
-ghost use Rattle.walk.specs.Step.{replyOf, resultOf};
-ghost use Rattle.example.specs.Weight.{firstWeight, firstRow};
+ghost use Rattle.cell.specs.Item.{blank_cell};
+ghost use Rattle.walk.specs.Step.{reply_of, result_of};
+ghost use Rattle.example.specs.Weight.{first_weight, first_row};
 
 use ascii::Found;
 use refusal::{Check, Refusal};
@@ -14,7 +14,7 @@ use walk::Answer;
 // The first cell of the first column named WEIGHT, in either case, the end, or what refuses the table, the column or
 // the cell.
 pub fn first_weight(header: &[u8], area: &[u8]) -> Answer
-    ensures { replyOf result ≡ firstWeight header.now area.now }
+    ensures { reply_of result ≡ first_weight header.now area.now }
 {
     let parsed = bintable::parse(header, area);
     let check = parsed.check;
@@ -35,8 +35,8 @@ pub fn first_weight(header: &[u8], area: &[u8]) -> Answer
 
 // The first row read into a list of 512 cells: its answer, the cursor after it, and cell k of the list.
 pub fn of_first_row(header: &[u8], area: &[u8], k: usize) -> RowCell
-    ensures step { resultOf result.stepped (firstRow header.now area.now).list ≡ firstRow header.now area.now }
-    ensures cell { result.cell ≡ get_or (firstRow header.now area.now).list k blankCell }
+    ensures step { result_of result.stepped (first_row header.now area.now).list ≡ first_row header.now area.now }
+    ensures cell { result.cell ≡ get_or (first_row header.now area.now).list k blank_cell }
 {
     let parsed = bintable::parse(header, area);
     let layout = parsed.layout;

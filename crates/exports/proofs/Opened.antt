@@ -10,94 +10,94 @@ use Rattle.refusal.specs.Refusal as H
 use Rattle.layout.specs.declared.BinTable.{BinTable}
 use Rattle.refusal.specs.declared.Refusal.{Refusal}
 use Rattle.refusal.specs.declared.Check.TheVariants.{Passed, Refused}
-use Rattle.refusal.specs.Refusal.{numberOf, outcomeOf}
+use Rattle.refusal.specs.Refusal.{number_of, outcome_of}
 use Rattle.bintable.specs.Entry as B
-use Rattle.bintable.proofs.Kept.{entry-ok}
+use Rattle.bintable.proofs.Kept.{entry_ok}
 use Rattle.walk.specs.declared.TableData.{TableData}
-use Rattle.walk.specs.Plain.{rowEntries}
-use Rattle.walk.specs.Walk.{start, entriesFrom}
-use Rattle.walk.specs.Step.{listed, fits, choiceOk, choiceOf, belongs, cursorAt, cursorLeft, openWith}
+use Rattle.walk.specs.Plain.{row_entries}
+use Rattle.walk.specs.Walk.{start, entries_from}
+use Rattle.walk.specs.Step.{listed, fits, choice_ok, choice_of, belongs, cursor_at, cursor_left, open_with}
 use Rattle.walk.proofs.Inside.{limits}
-use Rattle.walk.proofs.Follows.{ok-start}
-use Rattle.walk.proofs.InOrder.{left-start}
+use Rattle.walk.proofs.Follows.{ok_start}
+use Rattle.walk.proofs.InOrder.{left_start}
 use Rattle.exports.specs.declared.Start.{Start}
-use Rattle.exports.specs.Checksum.{addCells, withNumber}
-use Rattle.exports.specs.Reads.{Reading, ended, cellReads, Way, byCells, byRows, openedReads, entryReads, tableReads, readsSum}
-use Rattle.exports.specs.Loops.{cellsFrom, rowsFrom}
+use Rattle.exports.specs.Checksum.{add_cells, with_number}
+use Rattle.exports.specs.Reads.{Reading, ended, cell_reads, Way, by_cells, by_rows, opened_reads, entry_reads, table_reads, reads_sum}
+use Rattle.exports.specs.Loops.{cells_from, rows_from}
 
 -- ---- the layout
 
 module _ (h a : List ℕ) where
   -- it has no more columns than there is room for
-  pub few-columns : (B.layoutIn (B.entry h a)).tfields ≤ 64
-  few-columns = go (B.entry h a) refl
+  pub few_columns : (B.layout_in (B.entry h a)).tfields ≤ 64
+  few_columns = go (B.entry h a) refl
     where
-      go : (e : B.Entry) → B.entry h a ≡ e → (B.layoutIn e).tfields ≤ 64
-      go (B.accepted l) q = (limits l (entry-ok h a l q)).columns
+      go : (e : B.Entry) → B.entry h a ≡ e → (B.layout_in e).tfields ≤ 64
+      go (B.accepted l) q = (limits l (entry_ok h a l q)).columns
       go (B.refused n p) q = omega arith
 
 -- ---- the cursor
 
 module _ (l : BinTable) (a : List ℕ) where
-  start-belongs : (choice : ℕ) (heap : Bool) → fits l a ≡ true → choiceOk l choice ≡ true
-      → belongs l a (cursorAt choice heap start) ≡ true
+  start_belongs : (choice : ℕ) (heap : Bool) → fits l a ≡ true → choice_ok l choice ≡ true
+      → belongs l a (cursor_at choice heap start) ≡ true
   unfolding belongs
-  start-belongs choice heap f c = rw (f, c) (ok-start (rowEntries l a choice heap) l.naxis2 0 (omega arith))
+  start_belongs choice heap f c = rw (f, c) (ok_start (row_entries l a choice heap) l.naxis2 0 (omega arith))
 
 -- a way to read, and what it comes to from a cursor on, which at the table's start is the same
 pub record Read (way : Way) (from : BinTable → List ℕ → TableData → Reading) : Type 0 where
-  pub all : (l : BinTable) (a : List ℕ) (choice : ℕ) (heap : Bool) → belongs l a (cursorAt choice heap start) ≡ true
-      → from l a (cursorAt choice heap start) ≡ way (rowEntries l a choice heap) l.naxis2
+  pub all : (l : BinTable) (a : List ℕ) (choice : ℕ) (heap : Bool) → belongs l a (cursor_at choice heap start) ≡ true
+      → from l a (cursor_at choice heap start) ≡ way (row_entries l a choice heap) l.naxis2
 
-pub cell-reads : Read byCells cellsFrom
-cell-reads = record { all = λ l a choice heap b. rw b (ap cellReads (first l a choice heap)) }
+pub cell_reads_lem : Read by_cells cells_from
+cell_reads_lem = record { all = λ l a choice heap b. rw b (ap cell_reads (first l a choice heap)) }
   where
     first : (l : BinTable) (a : List ℕ) (choice : ℕ) (heap : Bool)
-        → cursorLeft l a (cursorAt choice heap start) ≡ entriesFrom (rowEntries l a choice heap) l.naxis2 0 l.naxis2
+        → cursor_left l a (cursor_at choice heap start) ≡ entries_from (row_entries l a choice heap) l.naxis2 0 l.naxis2
     first l a choice heap =
         let e : l.naxis2 - 0 ≡ l.naxis2 = omega arith in
-        left-start (rowEntries l a choice heap) l.naxis2 (l.naxis2 - 0) 0 ∙ rw e
+        left_start (row_entries l a choice heap) l.naxis2 (l.naxis2 - 0) 0 ∙ rw e
 
-pub row-reads : (m : ℕ) → Read (byRows m) (rowsFrom m)
-row-reads m = record { all = λ l a choice heap b. let z : l.naxis2 - 0 ≡ l.naxis2 = omega arith in rw (b, z) }
+pub row_reads_lem : (m : ℕ) → Read (by_rows m) (rows_from m)
+row_reads_lem m = record { all = λ l a choice heap b. let z : l.naxis2 - 0 ≡ l.naxis2 = omega arith in rw (b, z) }
 
 module _ (way : Way) (from : BinTable → List ℕ → TableData → Reading) (read : Read way from)
     (a cols : List ℕ) (heap : Bool) where
   -- reads from the cursor c on, if the checks before accept
-  abbrev readBy : H.Outcome → BinTable → TableData → Reading
-  readBy H.accepted l c = from l a c
-  readBy (H.refused n p) l c = ended n
+  abbrev read_by : H.Outcome → BinTable → TableData → Reading
+  read_by H.accepted l c = from l a c
+  read_by (H.refused n p) l c = ended n
 
-  opened : (l : BinTable) → let o = openWith l a (listed cols) heap in
-      readBy o.outcome l o.cursor ≡ openedReads way l a cols heap o.outcome
-  unfolding openWith
+  opened : (l : BinTable) → let o = open_with l a (listed cols) heap in
+      read_by o.outcome l o.cursor ≡ opened_reads way l a cols heap o.outcome
+  unfolding open_with
   opened l =
-      let choice = choiceOf l (listed cols) in
+      let choice = choice_of l (listed cols) in
       either (fits l a)
       (λ f.
-      either (choiceOk l choice) (λ c. rw (f, c) (read.all l a choice heap (start-belongs l a choice heap f c)))
+      either (choice_ok l choice) (λ c. rw (f, c) (read.all l a choice heap (start_belongs l a choice heap f c)))
       (λ c. rw (f, c)))
       (λ f. rw f)
 
   entered : (o : H.Outcome) (k : BinTable)
-      → let l = B.layoutIn (B.entryBy o k) in let p = openWith l a (listed cols) heap in
-      readBy (H.before o p.outcome) l p.cursor ≡ entryReads way a cols heap (B.entryBy o k)
+      → let l = B.layout_in (B.entry_by o k) in let p = open_with l a (listed cols) heap in
+      read_by (H.before o p.outcome) l p.cursor ≡ entry_reads way a cols heap (B.entry_by o k)
   entered H.accepted k = opened k
   entered (H.refused n p) k = refl
 
   -- of what `open_table` returns, by its contract
   module _ (h : List ℕ) (s : Start)
-      (check : outcomeOf s.check ≡ H.before (B.allChecks h a) (openWith s.layout a (listed cols) heap).outcome)
-      (layout : s.layout ≡ B.layoutIn (B.entry h a))
-      (cursor : s.cursor ≡ (openWith s.layout a (listed cols) heap).cursor) where
-    table-reads : readBy (outcomeOf s.check) s.layout s.cursor ≡ tableReads way h a cols heap
-    table-reads = rw (check, cursor, layout) (entered (B.allChecks h a) (B.layoutOf h))
+      (check : outcome_of s.check ≡ H.before (B.all_checks h a) (open_with s.layout a (listed cols) heap).outcome)
+      (layout : s.layout ≡ B.layout_in (B.entry h a))
+      (cursor : s.cursor ≡ (open_with s.layout a (listed cols) heap).cursor) where
+    table_reads_lem : read_by (outcome_of s.check) s.layout s.cursor ≡ table_reads way h a cols heap
+    table_reads_lem = rw (check, cursor, layout) (entered (B.all_checks h a) (B.layout_of h))
 
-    pub sum-refused : (r : Refusal) → s.check ≡ Refused r
-        → withNumber (numberOf r) 0 ≡ readsSum (tableReads way h a cols heap)
-    unfolding addCells
-    sum-refused r t = ap readsSum (rw t at table-reads)
+    pub sum_refused : (r : Refusal) → s.check ≡ Refused r
+        → with_number (number_of r) 0 ≡ reads_sum (table_reads way h a cols heap)
+    unfolding add_cells
+    sum_refused r t = ap reads_sum (rw t at table_reads_lem)
 
-    pub sum-passed : s.check ≡ Passed
-        → readsSum (from s.layout a s.cursor) ≡ readsSum (tableReads way h a cols heap)
-    sum-passed t = ap readsSum (rw t at table-reads)
+    pub sum_passed : s.check ≡ Passed
+        → reads_sum (from s.layout a s.cursor) ≡ reads_sum (table_reads way h a cols heap)
+    sum_passed t = ap reads_sum (rw t at table_reads_lem)

@@ -15,16 +15,16 @@ abbrev back : Width → ℤ → ℤ
 back w z = to_z w (of_z w z)
 
 -- the last of the 64 bits of a number of w bits, 64 at most
-last-bits : (w : Width) (z : ℤ) → SFits w z → hbits w ≤ 63 → of_z w64 z % 2 ^ bits w ≡ of_z w z
-last-bits w8 (pos a) F few = omega (arith, F.sfits)
-last-bits w8 (negsuc a) F few = omega (arith, F.sfits)
-last-bits w16 (pos a) F few = omega (arith, F.sfits)
-last-bits w16 (negsuc a) F few = omega (arith, F.sfits)
-last-bits w32 (pos a) F few = omega (arith, F.sfits)
-last-bits w32 (negsuc a) F few = omega (arith, F.sfits)
-last-bits w64 (pos a) F few = omega (arith, F.sfits)
-last-bits w64 (negsuc a) F few = omega (arith, F.sfits)
-last-bits w128 z F few = absurd (omega (arith, few))
+last_bits : (w : Width) (z : ℤ) → SFits w z → hbits w ≤ 63 → of_z w64 z % 2 ^ bits w ≡ of_z w z
+last_bits w8 (pos a) F few = omega (arith, F.sfits)
+last_bits w8 (negsuc a) F few = omega (arith, F.sfits)
+last_bits w16 (pos a) F few = omega (arith, F.sfits)
+last_bits w16 (negsuc a) F few = omega (arith, F.sfits)
+last_bits w32 (pos a) F few = omega (arith, F.sfits)
+last_bits w32 (negsuc a) F few = omega (arith, F.sfits)
+last_bits w64 (pos a) F few = omega (arith, F.sfits)
+last_bits w64 (negsuc a) F few = omega (arith, F.sfits)
+last_bits w128 z F few = absurd (omega (arith, few))
 
 module _ (w : Width) (z : ℤ) (F : SFits w z) (few : hbits w ≤ 63) where
   wide : SFits w64 z
@@ -32,4 +32,4 @@ module _ (w : Width) (z : ℤ) (F : SFits w z) (few : hbits w ≤ 63) where
 
   -- the last of its bits, cast to 64, are its own
   pub own_bits : of_z w64 (back w64 (back w z)) % 2 ^ bits w ≡ of_z w z
-  own_bits = rw (to_z-of_z w z F, to_z-of_z w64 z wide) (last-bits w z F few)
+  own_bits = rw (to_z-of_z w z F, to_z-of_z w64 z wide) (last_bits w z F few)

@@ -8,82 +8,82 @@ use native.Mathlib.Numerals.{add-one}
 use native.Mathlib.Omega.{arith}
 use lib.ListN.{length, get_or, take, drop, drop_of_length-le}
 use lib.Seq.{drop-cons}
-use Rattle.tform.specs.Width.{formLetter}
+use Rattle.tform.specs.Width.{form_letter}
 use Rattle.layout.specs.declared.BinTable.{BinTable}
-use Rattle.layout.specs.Names.{columnName}
+use Rattle.layout.specs.Names.{column_name}
 use Rattle.cell.specs.declared.Cell.{Cell}
-use Rattle.walk.specs.Plain.{columnOf}
-use Rattle.exports.specs.Checksum.{addWord, addWords, words, addCell, addCells, elementLetter, columnWords, columnsWords, layoutSum}
+use Rattle.walk.specs.Plain.{column_of}
+use Rattle.exports.specs.Checksum.{add_word, add_words, words, add_cell, add_cells, element_letter, column_words, columns_words, layout_sum}
 
-pub one-word : (s w : ℕ) → addWord s w ≡ addWords s (w ∷ [])
-unfolding addWords
-one-word s w = refl
+pub one_word : (s w : ℕ) → add_word s w ≡ add_words s (w ∷ [])
+unfolding add_words
+one_word s w = refl
 
-pub two-words : (s v w : ℕ) → addWord (addWord s v) w ≡ addWords s (v ∷ w ∷ [])
-unfolding addWords
-two-words s v w = refl
+pub two_words : (s v w : ℕ) → add_word (add_word s v) w ≡ add_words s (v ∷ w ∷ [])
+unfolding add_words
+two_words s v w = refl
 
-pub words-then : (s : ℕ) (vs ws : List ℕ) → addWords (addWords s vs) ws ≡ addWords s (vs ++ ws)
-unfolding addWords
-words-then s [] ws = refl
-words-then s (v ∷ vs) ws = words-then (addWord s v) vs ws
+pub words_then : (s : ℕ) (vs ws : List ℕ) → add_words (add_words s vs) ws ≡ add_words s (vs ++ ws)
+unfolding add_words
+words_then s [] ws = refl
+words_then s (v ∷ vs) ws = words_then (add_word s v) vs ws
 
 -- the words that are left from word i on
-pub word-next : (s i : ℕ) (ws : List ℕ) → i < length ws
-    → addWords s (drop i ws) ≡ addWords (addWord s (get_or ws i 0)) (drop (i + 1) ws)
-unfolding addWords
-word-next s i ws h = rw (drop-cons ws i 0 h, add-one i)
+pub word_next : (s i : ℕ) (ws : List ℕ) → i < length ws
+    → add_words s (drop i ws) ≡ add_words (add_word s (get_or ws i 0)) (drop (i + 1) ws)
+unfolding add_words
+word_next s i ws h = rw (drop-cons ws i 0 h, add-one i)
 
-pub words-done : (s i : ℕ) (ws : List ℕ) → length ws ≤ i → addWords s (drop i ws) ≡ s
-unfolding addWords
-words-done s i ws h = rw (drop_of_length-le ws {i = i} h)
+pub words_done : (s i : ℕ) (ws : List ℕ) → length ws ≤ i → add_words s (drop i ws) ≡ s
+unfolding add_words
+words_done s i ws h = rw (drop_of_length-le ws {i = i} h)
 
-pub place-first : (s : ℕ) (c : Cell)
-    → addWords (addWord (addWord (addWord s c.row) c.column) c.idx) (words c.value) ≡ addCell s c
-unfolding addWords
-place-first s c = refl
+pub place_first : (s : ℕ) (c : Cell)
+    → add_words (add_word (add_word (add_word s c.row) c.column) c.idx) (words c.value) ≡ add_cell s c
+unfolding add_words
+place_first s c = refl
 
-pub cells-then : (s : ℕ) (cs ds : List Cell) → addCells (addCells s cs) ds ≡ addCells s (cs ++ ds)
-unfolding addCells
-cells-then s [] ds = refl
-cells-then s (c ∷ cs) ds = cells-then (addCell s c) cs ds
+pub cells_then : (s : ℕ) (cs ds : List Cell) → add_cells (add_cells s cs) ds ≡ add_cells s (cs ++ ds)
+unfolding add_cells
+cells_then s [] ds = refl
+cells_then s (c ∷ cs) ds = cells_then (add_cell s c) cs ds
 
 -- the sum of a list's front, cell by cell
-pub front-none : (s : ℕ) (cs : List Cell) → addCells s (take 0 cs) ≡ s
-unfolding addCells
-front-none s cs = refl
+pub front_none : (s : ℕ) (cs : List Cell) → add_cells s (take 0 cs) ≡ s
+unfolding add_cells
+front_none s cs = refl
 
-pub front-more : (s : ℕ) (cs : List Cell) (i : ℕ) (d : Cell) → i < length cs
-    → addCells s (take (suc i) cs) ≡ addCell (addCells s (take i cs)) (get_or cs i d)
-unfolding addCells
-front-more s [] i d h = absurd (not-suc-le-zero h)
-front-more s (c ∷ cs) zero d h = refl
-front-more s (c ∷ cs) (suc i) d h = front-more (addCell s c) cs i d (le_of_suc-le-suc h)
+pub front_more : (s : ℕ) (cs : List Cell) (i : ℕ) (d : Cell) → i < length cs
+    → add_cells s (take (suc i) cs) ≡ add_cell (add_cells s (take i cs)) (get_or cs i d)
+unfolding add_cells
+front_more s [] i d h = absurd (not-suc-le-zero h)
+front_more s (c ∷ cs) zero d h = refl
+front_more s (c ∷ cs) (suc i) d h = front_more (add_cell s c) cs i d (le_of_suc-le-suc h)
 
 -- ---- a layout: the sum so far with the columns that are left, from column c on
 
-abbrev pub restSum : List ℕ → BinTable → ℕ → ℕ → ℕ
-restSum h l s c = addWords s (columnsWords h l c (l.tfields - c))
+abbrev pub rest_sum : List ℕ → BinTable → ℕ → ℕ → ℕ
+rest_sum h l s c = add_words s (columns_words h l c (l.tfields - c))
 
 module _ (h : List ℕ) (l : BinTable) where
-  pub sizes-first : restSum h l (addWord (addWord (addWord (addWord
-      (addWord 0 l.naxis1) l.naxis2) l.pcount) l.theap) l.tfields) 0 ≡ layoutSum h l
-  unfolding addWords layoutSum
-  sizes-first = let e : l.tfields - 0 ≡ l.tfields = omega arith in rw e
+  pub sizes_first : rest_sum h l (add_word (add_word (add_word (add_word
+      (add_word 0 l.naxis1) l.naxis2) l.pcount) l.theap) l.tfields) 0 ≡ layout_sum h l
+  unfolding add_words layout_sum
+  sizes_first = let e : l.tfields - 0 ≡ l.tfields = omega arith in rw e
 
-  pub column-first : (s c : ℕ) → let column = columnOf l c in let name = columnName h l c in
-      addWords (addWord (addWord (addWord (addWord (addWord s (formLetter column.form))
-      (elementLetter column.form)) column.count) column.start) (length name)) name ≡ addWords s (columnWords h l c)
-  unfolding addWords columnWords
-  column-first s c = refl
+  pub column_first : (s c : ℕ) → let column = column_of l c in let name = column_name h l c in
+      add_words (add_word (add_word (add_word (add_word (add_word s (form_letter column.form))
+      (element_letter column.form)) column.count) column.start) (length name)) name ≡ add_words s (column_words h l c)
+  unfolding add_words column_words
+  column_first s c = refl
 
-  pub column-next : (s c : ℕ) → c < l.tfields
-      → restSum h l s c ≡ restSum h l (addWords s (columnWords h l c)) (c + 1)
-  unfolding columnsWords
-  column-next s c i =
+  pub column_next : (s c : ℕ) → c < l.tfields
+      → rest_sum h l s c ≡ rest_sum h l (add_words s (column_words h l c)) (c + 1)
+  unfolding columns_words
+  column_next s c i =
       let e : l.tfields - c ≡ suc (l.tfields - suc c) = omega arith in
-      rw (e, add-one c) (sym (words-then s (columnWords h l c) (columnsWords h l (suc c) (l.tfields - suc c))))
+      rw (e, add-one c) (sym (words_then s (column_words h l c) (columns_words h l (suc c) (l.tfields - suc c))))
 
-  pub columns-done : (s c : ℕ) → l.tfields ≤ c → restSum h l s c ≡ s
-  unfolding addWords columnsWords
-  columns-done s c i = let e : l.tfields - c ≡ 0 = omega arith in rw e
+  pub columns_done : (s c : ℕ) → l.tfields ≤ c → rest_sum h l s c ≡ s
+  unfolding add_words columns_words
+  columns_done s c i = let e : l.tfields - c ≡ 0 = omega arith in rw e

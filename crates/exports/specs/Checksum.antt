@@ -5,38 +5,38 @@ use Rattle.std.specs.Int.{w16, w32, w64}
 use Rattle.std.proofs.Common.{of_z}
 use Rattle.tform.specs.declared.TFormType.{TFormType}
 use Rattle.tform.specs.declared.TFormType.TheVariants.{Items, P, Q}
-use Rattle.tform.specs.Width.{letter, formLetter}
+use Rattle.tform.specs.Width.{letter, form_letter}
 use Rattle.layout.specs.declared.BinTable.{BinTable}
-use Rattle.layout.specs.Names.{columnName}
+use Rattle.layout.specs.Names.{column_name}
 use Rattle.bintable.specs.Entry as B
 use Rattle.cell.specs.declared.Logical.{Logical}
 use Rattle.cell.specs.declared.Logical.TheVariants as L
 use Rattle.cell.specs.declared.DataValue.{DataValue}
 use Rattle.cell.specs.declared.DataValue.TheVariants as D
 use Rattle.cell.specs.declared.Cell.{Cell}
-use Rattle.walk.specs.Plain.{columnOf}
+use Rattle.walk.specs.Plain.{column_of}
 
 -- a sum with one more word, or number
-abbrev pub addWord : ℕ → ℕ → ℕ
-addWord s w = (s * 31 + w) % 2 ^ 32
+abbrev pub add_word : ℕ → ℕ → ℕ
+add_word s w = (s * 31 + w) % 2 ^ 32
 
-unfoldable pub addWords : ℕ → List ℕ → ℕ
-addWords s [] = s
-addWords s (w ∷ ws) = addWords (addWord s w) ws
+unfoldable pub add_words : ℕ → List ℕ → ℕ
+add_words s [] = s
+add_words s (w ∷ ws) = add_words (add_word s w) ws
 
 -- a number of 64 bits: the high word, then the low one
 abbrev pub two : ℕ → List ℕ
 two n = n / 2 ^ 32 ∷ n % 2 ^ 32 ∷ []
 
-abbrev pub logicalByte : Logical → ℕ
-logicalByte L.Yes = 84
-logicalByte L.No = 70
-logicalByte L.Unset = 0
-logicalByte (L.Odd b) = b
+abbrev pub logical_byte : Logical → ℕ
+logical_byte L.Yes = 84
+logical_byte L.No = 70
+logical_byte L.Unset = 0
+logical_byte (L.Odd b) = b
 
 -- the words of a value's bits
 abbrev pub words : DataValue → List ℕ
-words (D.Logical v) = logicalByte v ∷ []
+words (D.Logical v) = logical_byte v ∷ []
 words (D.Bit b) = b ∷ []
 words (D.UnsignedByte b) = b ∷ []
 words (D.Short n) = of_z w16 n ∷ []
@@ -51,46 +51,46 @@ words (D.VariableLengthArray32 n at) = n ∷ at ∷ []
 words (D.VariableLengthArray64 n at) = two n ++ two at
 
 -- those of a cell: where it stands, then its value
-abbrev pub cellWords : Cell → List ℕ
-cellWords c = c.row ∷ c.column ∷ c.idx ∷ words c.value
+abbrev pub cell_words : Cell → List ℕ
+cell_words c = c.row ∷ c.column ∷ c.idx ∷ words c.value
 
-abbrev pub addCell : ℕ → Cell → ℕ
-addCell s c = addWords s (cellWords c)
+abbrev pub add_cell : ℕ → Cell → ℕ
+add_cell s c = add_words s (cell_words c)
 
 -- a sum with the words of some cells
-unfoldable pub addCells : ℕ → List Cell → ℕ
-addCells s [] = s
-addCells s (c ∷ cs) = addCells (addCell s c) cs
+unfoldable pub add_cells : ℕ → List Cell → ℕ
+add_cells s [] = s
+add_cells s (c ∷ cs) = add_cells (add_cell s c) cs
 
 abbrev pub checksum : List Cell → ℕ
-checksum cs = addCells 0 cs
+checksum cs = add_cells 0 cs
 
 -- the letter of a descriptor's elements; 0 for items, which have the form's letter
-abbrev pub elementLetter : TFormType → ℕ
-elementLetter (Items e) = 0
-elementLetter (P e) = letter e
-elementLetter (Q e) = letter e
+abbrev pub element_letter : TFormType → ℕ
+element_letter (Items e) = 0
+element_letter (P e) = letter e
+element_letter (Q e) = letter e
 
 -- the words of column c: its letters, count and start, and how long its name is, with the name's bytes as the header has them
-unfoldable pub columnWords : List ℕ → BinTable → ℕ → List ℕ
-columnWords h l c =
-    let column = columnOf l c in let name = columnName h l c in
-    formLetter column.form ∷ elementLetter column.form ∷ column.count ∷ column.start ∷ length name ∷ name
+unfoldable pub column_words : List ℕ → BinTable → ℕ → List ℕ
+column_words h l c =
+    let column = column_of l c in let name = column_name h l c in
+    form_letter column.form ∷ element_letter column.form ∷ column.count ∷ column.start ∷ length name ∷ name
 
 -- of n columns from column c on
-unfoldable pub columnsWords : List ℕ → BinTable → ℕ → ℕ → List ℕ
-columnsWords h l c zero = []
-columnsWords h l c (suc n) = columnWords h l c ++ columnsWords h l (suc c) n
+unfoldable pub columns_words : List ℕ → BinTable → ℕ → ℕ → List ℕ
+columns_words h l c zero = []
+columns_words h l c (suc n) = column_words h l c ++ columns_words h l (suc c) n
 
 -- the sizes of a layout, then its columns
-unfoldable pub layoutSum : List ℕ → BinTable → ℕ
-layoutSum h l = addWords 0 (l.naxis1 ∷ l.naxis2 ∷ l.pcount ∷ l.theap ∷ l.tfields ∷ columnsWords h l 0 l.tfields)
+unfoldable pub layout_sum : List ℕ → BinTable → ℕ
+layout_sum h l = add_words 0 (l.naxis1 ∷ l.naxis2 ∷ l.pcount ∷ l.theap ∷ l.tfields ∷ columns_words h l 0 l.tfields)
 
 -- what is returned: the number of a refusal, 0 if there is none, above a sum
-abbrev pub withNumber : ℕ → ℕ → ℕ
-withNumber n s = n * 2 ^ 32 + s
+abbrev pub with_number : ℕ → ℕ → ℕ
+with_number n s = n * 2 ^ 32 + s
 
 -- of the layout that the entry returns; the number of a refusal, above a sum of 0
-abbrev pub entrySum : List ℕ → B.Entry → ℕ
-entrySum h (B.accepted l) = withNumber 0 (layoutSum h l)
-entrySum h (B.refused n p) = withNumber n 0
+abbrev pub entry_sum : List ℕ → B.Entry → ℕ
+entry_sum h (B.accepted l) = with_number 0 (layout_sum h l)
+entry_sum h (B.refused n p) = with_number n 0

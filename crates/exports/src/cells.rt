@@ -1,8 +1,8 @@
 // The sum of the cells that cell reads hand out, up to the first answer that is no cell. There are two loops, since one
 // that asks in each turn which call to make takes some 6 ns more for a cell.
 ghost use Rattle.std.specs.Prelude.{◌≡◌};
-ghost use Rattle.exports.specs.Reads.{readsSum};
-ghost use Rattle.exports.specs.Loops.{cellsFrom};
+ghost use Rattle.exports.specs.Reads.{reads_sum};
+ghost use Rattle.exports.specs.Loops.{cells_from};
 
 use super::{checksum, refusals};
 use layout::BinTable;
@@ -10,7 +10,7 @@ use walk::{Answer, TableData};
 
 #[tactic(auto, using(crate::proofs::CellReads::cell_added, crate::proofs::CellReads::cells_ended))]
 pub fn sum_cells(layout: BinTable, area: &[u8], cursor: TableData) -> u64
-    ensures { result ≡ readsSum (cellsFrom layout area.now cursor) }
+    ensures { result ≡ reads_sum (cells_from layout area.now cursor) }
 {
     let mut sum: u32 = 0;
     let mut current = cursor;
@@ -27,7 +27,7 @@ pub fn sum_cells(layout: BinTable, area: &[u8], cursor: TableData) -> u64
 
 #[tactic(auto, using(crate::proofs::CellReads::cell_added, crate::proofs::CellReads::cells_ended))]
 pub fn sum_lent(layout: BinTable, area: &[u8], cursor: TableData) -> u64
-    ensures { result ≡ readsSum (cellsFrom layout area.now cursor) }
+    ensures { result ≡ reads_sum (cells_from layout area.now cursor) }
 {
     let mut sum: u32 = 0;
     let mut current = cursor;

@@ -2,12 +2,12 @@
 ghost use Rattle.std.specs.Prelude.{◌≡◌};
 ghost use Rattle.std.specs.Int.{w64};
 ghost use Rattle.std.proofs.Common.{of_z};
-ghost use Rattle.exports.specs.Checksum.{addWord, addWords, two, logicalByte, words, addCell};
+ghost use Rattle.exports.specs.Checksum.{add_word, add_words, two, logical_byte, words, add_cell};
 
 use cell::{Cell, DataValue, Logical};
 
 pub fn add_word(sum: u32, word: u64) -> u32
-    ensures { result ≡ addWord sum word }
+    ensures { result ≡ add_word sum word }
 {
     // Of the word only its low half matters, and no sum wraps.
     ((sum as u64 * 31 + word % 4294967296) % 4294967296) as u32
@@ -15,7 +15,7 @@ pub fn add_word(sum: u32, word: u64) -> u32
 
 // A number of 64 bits: the high word, then the low one.
 fn add_two(sum: u32, n: u64) -> u32
-    ensures { result ≡ addWords sum (two n) }
+    ensures { result ≡ add_words sum (two n) }
 {
     add_word(add_word(sum, n / 4294967296), n % 4294967296)
 }
@@ -32,7 +32,7 @@ fn bits(n: i64) -> u64
 }
 
 fn logical_byte(value: Logical) -> u8
-    ensures { result ≡ logicalByte value }
+    ensures { result ≡ logical_byte value }
 {
     match value {
         Logical::Yes => 84,
@@ -43,7 +43,7 @@ fn logical_byte(value: Logical) -> u8
 }
 
 fn add_value(sum: u32, value: DataValue) -> u32
-    ensures { result ≡ addWords sum (words value) }
+    ensures { result ≡ add_words sum (words value) }
 {
     match value {
         DataValue::Logical(logical) => add_word(sum, logical_byte(logical) as u64),
@@ -79,7 +79,7 @@ fn add_value(sum: u32, value: DataValue) -> u32
 }
 
 pub fn add_cell(sum: u32, cell: Cell) -> u32
-    ensures { result ≡ addCell sum cell }
+    ensures { result ≡ add_cell sum cell }
 {
     let value = cell.value;
     let place = add_word(add_word(sum, cell.row), cell.column as u64);

@@ -1,6 +1,6 @@
 // The checksum of a layout.
 ghost use Rattle.std.specs.Prelude.{◌≡◌, ◌<◌, ◌≤◌};
-ghost use Rattle.exports.specs.Checksum.{addWords, elementLetter, columnWords, layoutSum};
+ghost use Rattle.exports.specs.Checksum.{add_words, element_letter, column_words, layout_sum};
 
 use super::checksum::add_word;
 use layout::BinTable;
@@ -8,7 +8,7 @@ use tform::TFormType;
 
 // The letter of a descriptor's elements; 0 for items.
 fn element_letter(form: TFormType) -> u8
-    ensures { result ≡ elementLetter form }
+    ensures { result ≡ element_letter form }
 {
     match form {
         TFormType::Items(_) => 0,
@@ -18,7 +18,7 @@ fn element_letter(form: TFormType) -> u8
 }
 
 fn add_bytes(sum: u32, text: &[u8]) -> u32
-    ensures { result ≡ addWords sum text.now }
+    ensures { result ≡ add_words sum text.now }
 {
     let mut total = sum;
     let mut i: usize = 0;
@@ -32,7 +32,7 @@ fn add_bytes(sum: u32, text: &[u8]) -> u32
 // A column: its letters, count and start, and its name.
 fn add_column(sum: u32, header: &[u8], layout: BinTable, c: usize) -> u32
     requires { c < 64 }
-    ensures { result ≡ addWords sum (columnWords header.now layout c) }
+    ensures { result ≡ add_words sum (column_words header.now layout c) }
 {
     let column = layout.columns[c];
     let form = column.form;
@@ -46,7 +46,7 @@ fn add_column(sum: u32, header: &[u8], layout: BinTable, c: usize) -> u32
 // The sizes of a layout, then its columns.
 pub fn sum_layout(header: &[u8], layout: BinTable) -> u32
     requires { layout.tfields ≤ 64 }
-    ensures { result ≡ layoutSum header.now layout }
+    ensures { result ≡ layout_sum header.now layout }
 {
     let mut sum = add_word(0, layout.naxis1);
     sum = add_word(sum, layout.naxis2);

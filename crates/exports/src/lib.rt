@@ -9,15 +9,15 @@ mod refusals;
 mod rows;
 
 ghost use Rattle.std.specs.Prelude.{◌≡◌, length, take};
-ghost use Rattle.refusal.specs.Refusal.{before, outcomeOf};
-ghost use Rattle.bintable.specs.Entry.{entry, layoutIn, allChecks};
-ghost use Rattle.walk.specs.Step.{listed, openWith};
-ghost use Rattle.ascii.specs.Buffer.{putIn};
-ghost use Rattle.output.specs.Cells.{fileLimit};
-ghost use Rattle.output.specs.Replay.{replayLines};
-ghost use Rattle.output.specs.Page.{pageText};
-ghost use Rattle.exports.specs.Checksum.{entrySum};
-ghost use Rattle.exports.specs.Reads.{byCells, byRows, listLength, tableReads, readsSum};
+ghost use Rattle.refusal.specs.Refusal.{before, outcome_of};
+ghost use Rattle.bintable.specs.Entry.{entry, layout_in, all_checks};
+ghost use Rattle.walk.specs.Step.{listed, open_with};
+ghost use Rattle.ascii.specs.Buffer.{put_in};
+ghost use Rattle.output.specs.Cells.{file_limit};
+ghost use Rattle.output.specs.Replay.{replay_lines};
+ghost use Rattle.output.specs.Page.{page_text};
+ghost use Rattle.exports.specs.Checksum.{entry_sum};
+ghost use Rattle.exports.specs.Reads.{by_cells, by_rows, list_length, table_reads, reads_sum};
 
 use layout::BinTable;
 use refusal::Check;
@@ -32,12 +32,12 @@ struct Start {
 }
 
 fn open_table(header: &[u8], area: &[u8], cols: &[usize], heap: bool) -> Start
-    ensures check { outcomeOf result.check
-        ≡ before (allChecks header.now area.now)
-        (openWith result.layout area.now (listed cols.now) heap).outcome }
-    ensures layout { result.layout ≡ layoutIn (entry header.now area.now) }
+    ensures check { outcome_of result.check
+        ≡ before (all_checks header.now area.now)
+        (open_with result.layout area.now (listed cols.now) heap).outcome }
+    ensures layout { result.layout ≡ layout_in (entry header.now area.now) }
     ensures cursor { result.cursor
-        ≡ (openWith result.layout area.now (listed cols.now) heap).cursor }
+        ≡ (open_with result.layout area.now (listed cols.now) heap).cursor }
 {
     let parsed = bintable::parse(header, area);
     let entry = parsed.check;
@@ -63,7 +63,7 @@ fn open_table(header: &[u8], area: &[u8], cols: &[usize], heap: bool) -> Start
 #[unsafe(no_mangle)]
 pub extern "C" fn coentrift_sum_cells(header: &[u8], area: &[u8], cols: &[usize], heap: bool) -> u64
     ensures { result
-        ≡ readsSum (tableReads byCells header.now area.now cols.now heap) }
+        ≡ reads_sum (table_reads by_cells header.now area.now cols.now heap) }
 {
     let start = open_table(header, area, cols, heap);
     let check = start.check;
@@ -79,7 +79,7 @@ pub extern "C" fn coentrift_sum_cells(header: &[u8], area: &[u8], cols: &[usize]
 #[unsafe(no_mangle)]
 pub extern "C" fn coentrift_sum_lent(header: &[u8], area: &[u8], cols: &[usize], heap: bool) -> u64
     ensures { result
-        ≡ readsSum (tableReads byCells header.now area.now cols.now heap) }
+        ≡ reads_sum (table_reads by_cells header.now area.now cols.now heap) }
 {
     let start = open_table(header, area, cols, heap);
     let check = start.check;
@@ -95,7 +95,7 @@ pub extern "C" fn coentrift_sum_lent(header: &[u8], area: &[u8], cols: &[usize],
 #[unsafe(no_mangle)]
 pub extern "C" fn coentrift_sum_rows(header: &[u8], area: &[u8], cols: &[usize], heap: bool) -> u64
     ensures { result
-        ≡ readsSum (tableReads (byRows listLength) header.now area.now cols.now heap) }
+        ≡ reads_sum (table_reads (by_rows list_length) header.now area.now cols.now heap) }
 {
     let start = open_table(header, area, cols, heap);
     let check = start.check;
@@ -110,7 +110,7 @@ pub extern "C" fn coentrift_sum_rows(header: &[u8], area: &[u8], cols: &[usize],
 // The checksum of the layout.
 #[unsafe(no_mangle)]
 pub extern "C" fn coentrift_layout(header: &[u8], area: &[u8]) -> u64
-    ensures { result ≡ entrySum header.now (entry header.now area.now) }
+    ensures { result ≡ entry_sum header.now (entry header.now area.now) }
 {
     let parsed = bintable::parse(header, area);
     let check = parsed.check;
@@ -124,9 +124,9 @@ pub extern "C" fn coentrift_layout(header: &[u8], area: &[u8]) -> u64
 // The first page of the text that `replay` prints of a file and its steps; the result is its length.
 #[unsafe(no_mangle)]
 pub extern "C" fn coentrift_replay(file: &[u8], steps: &[u8], out: &mut [u8]) -> usize
-    ensures len { result ≡ length (pageText (length out.old) (replayLines file.now (take fileLimit steps.now))) }
+    ensures len { result ≡ length (page_text (length out.old) (replay_lines file.now (take file_limit steps.now))) }
     ensures buffer { out.new
-        ≡ putIn out.old 0 (pageText (length out.old) (replayLines file.now (take fileLimit steps.now))) }
+        ≡ put_in out.old 0 (page_text (length out.old) (replay_lines file.now (take file_limit steps.now))) }
 {
     output::replay_text(file, steps, out)
 }

@@ -1,10 +1,10 @@
 // The sum of the cells that row reads store, with one list that is lent to each of them.
 ghost use Rattle.std.specs.Prelude.{◌≡◌, ◌≤◌, length, take};
-ghost use Rattle.walk.specs.Walk.{readRow};
-ghost use Rattle.walk.specs.Step.{cursorStep, replyOf};
-ghost use Rattle.exports.specs.Checksum.{addCells};
-ghost use Rattle.exports.specs.Reads.{listLength, readsSum};
-ghost use Rattle.exports.specs.Loops.{rowsFrom, storedCells, isRow, rowSum, rowSumAt};
+ghost use Rattle.walk.specs.Walk.{read_row};
+ghost use Rattle.walk.specs.Step.{cursor_step, reply_of};
+ghost use Rattle.exports.specs.Checksum.{add_cells};
+ghost use Rattle.exports.specs.Reads.{list_length, reads_sum};
+ghost use Rattle.exports.specs.Loops.{rows_from, stored_cells, is_row, row_sum, row_sum_at};
 
 use super::{checksum, refusals};
 use cell::Cell;
@@ -25,7 +25,7 @@ struct RowSum {
 
 // How many cells an answer says that a row read stored.
 fn stored_cells(answer: Answer) -> usize
-    ensures { result ≡ storedCells answer }
+    ensures { result ≡ stored_cells answer }
 {
     match answer {
         Answer::Row(n) => n as usize,
@@ -37,7 +37,7 @@ fn stored_cells(answer: Answer) -> usize
 }
 
 fn is_row(answer: Answer) -> bool
-    ensures { result ≡ isRow answer }
+    ensures { result ≡ is_row answer }
 {
     match answer {
         Answer::Row(_) => true,
@@ -50,7 +50,7 @@ fn is_row(answer: Answer) -> bool
 
 // What a row read comes to, with the sum of its cells.
 fn after_row(sum: u32, stepped: Stepped) -> RowSum
-    ensures { result ≡ rowSum sum stepped.cursor (replyOf stepped.answer) }
+    ensures { result ≡ row_sum sum stepped.cursor (reply_of stepped.answer) }
 {
     let answer = stepped.answer;
     let cursor = stepped.cursor;
@@ -65,7 +65,7 @@ fn after_row(sum: u32, stepped: Stepped) -> RowSum
 }
 
 fn read_cells(stepped: Stepped) -> usize
-    ensures { result ≡ storedCells stepped.answer }
+    ensures { result ≡ stored_cells stepped.answer }
 {
     let answer = stepped.answer;
     stored_cells(answer)
@@ -74,7 +74,7 @@ fn read_cells(stepped: Stepped) -> usize
 // The first n cells of a list.
 fn add_front(list: &[Cell], n: usize, sum: u32) -> u32
     requires { n ≤ length list.now }
-    ensures { result ≡ addCells sum (take n list.now) }
+    ensures { result ≡ add_cells sum (take n list.now) }
 {
     let mut total = sum;
     let mut i: usize = 0;
@@ -88,8 +88,8 @@ fn add_front(list: &[Cell], n: usize, sum: u32) -> u32
 
 // A row read, and the sum of the cells that it stored.
 fn add_row(list: &mut [Cell], layout: BinTable, area: &[u8], state: RowSum) -> RowSum
-    ensures sum { result ≡ rowSumAt state.sum (cursorStep layout area.now state.cursor (readRow list.old)) }
-    ensures list { list.new ≡ (cursorStep layout area.now state.cursor (readRow list.old)).list }
+    ensures sum { result ≡ row_sum_at state.sum (cursor_step layout area.now state.cursor (read_row list.old)) }
+    ensures list { list.new ≡ (cursor_step layout area.now state.cursor (read_row list.old)).list }
 {
     let stepped = row::read_row(layout, area, state.cursor, list);
     let n = read_cells(stepped);
@@ -99,7 +99,7 @@ fn add_row(list: &mut [Cell], layout: BinTable, area: &[u8], state: RowSum) -> R
 
 // The rows from a cursor on, up to the first that is not read.
 fn add_rows(list: &mut [Cell], layout: BinTable, area: &[u8], cursor: TableData) -> u64
-    ensures { result ≡ readsSum (rowsFrom (length list.old) layout area.now cursor) }
+    ensures { result ≡ reads_sum (rows_from (length list.old) layout area.now cursor) }
 {
     let mut state = RowSum {
         sum: 0,
@@ -114,7 +114,7 @@ fn add_rows(list: &mut [Cell], layout: BinTable, area: &[u8], cursor: TableData)
 }
 
 pub fn sum_rows(layout: BinTable, area: &[u8], cursor: TableData) -> u64
-    ensures { result ≡ readsSum (rowsFrom listLength layout area.now cursor) }
+    ensures { result ≡ reads_sum (rows_from list_length layout area.now cursor) }
 {
     let mut list = [cell::blank_cell(); LIST_LENGTH];
     add_rows(&mut list, layout, area, cursor)

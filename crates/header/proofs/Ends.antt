@@ -9,61 +9,61 @@ use native.Mathlib.Nat.{zero-add}
 use native.Mathlib.Numerals.{add-one}
 use lib.ListN.{length, take, drop, get_or, length-map, drop_of_length-le}
 use lib.Seq.{drop-cons, take-suc, append_snoc, length-take-le}
-use Rattle.card.specs.Record.{cardAt, isEnd}
-use Rattle.header.specs.Records.{records, hasEnd, beforeEnd, headerLen}
-use Rattle.keyword.proofs.Position.{length-range, range-at}
+use Rattle.card.specs.Record.{card_at, is_end}
+use Rattle.header.specs.Records.{records, has_end, before_end, header_len}
+use Rattle.keyword.proofs.Position.{length_range, range_at}
 
 module _ (h : List ℕ) where
-  pub record-count : length (records h) ≡ length h / 80
+  pub record_count : length (records h) ≡ length h / 80
   unfolding records
-  record-count = rw (length-map, length-range)
+  record_count = rw (length-map, length_range)
 
-  pub record-at : (k : ℕ) → k < length h / 80 → get_or (records h) k [] ≡ cardAt h k
+  pub record_at : (k : ℕ) → k < length h / 80 → get_or (records h) k [] ≡ card_at h k
   unfolding records
-  record-at k p = range-at (cardAt h) 0 (length h / 80) k [] p ∙ ap (cardAt h) (zero-add k)
+  record_at k p = range_at (card_at h) 0 (length h / 80) k [] p ∙ ap (card_at h) (zero-add k)
 
 -- none of the first k records is END
 pub record Open (rs : List (List ℕ)) (k : ℕ) : Type 0 where
-  pub end : hasEnd rs ≡ hasEnd (drop k rs)
-  pub passed : beforeEnd rs ≡ take k rs ++ beforeEnd (drop k rs)
+  pub end : has_end rs ≡ has_end (drop k rs)
+  pub passed : before_end rs ≡ take k rs ++ before_end (drop k rs)
 
-pub open-none : (rs : List (List ℕ)) → Open rs 0
-open-none rs = record { end = refl; passed = refl }
+pub open_none : (rs : List (List ℕ)) → Open rs 0
+open_none rs = record { end = refl; passed = refl }
 
 module _ (rs : List (List ℕ)) (k : ℕ) (o : Open rs k) where
   module _ (h : k < length rs) where
-    pub open_next : isEnd (get_or rs k []) ≡ false → Open rs (k + 1)
-    unfolding hasEnd beforeEnd
+    pub open_next : is_end (get_or rs k []) ≡ false → Open rs (k + 1)
+    unfolding has_end before_end
     open_next e = record {
       end = o.end ∙ rw (add-one k, drop-cons rs k [] h, e);
       passed =
           o.passed
           ∙ rw (add-one k, drop-cons rs k [] h, e, take-suc rs k [] h)
-          (sym (append_snoc (take k rs) (get_or rs k []) (beforeEnd (drop (suc k) rs))));
+          (sym (append_snoc (take k rs) (get_or rs k []) (before_end (drop (suc k) rs))));
     }
 
-    pub open-ends : isEnd (get_or rs k []) ≡ true → hasEnd rs ≡ true
-    unfolding hasEnd
-    open-ends e = o.end ∙ rw (drop-cons rs k [] h, e)
+    pub open_ends : is_end (get_or rs k []) ≡ true → has_end rs ≡ true
+    unfolding has_end
+    open_ends e = o.end ∙ rw (drop-cons rs k [] h, e)
 
-    pub open-before : isEnd (get_or rs k []) ≡ true → beforeEnd rs ≡ take k rs
-    unfolding beforeEnd
-    open-before e = o.passed ∙ rw (drop-cons rs k [] h, e) (append-nil (take k rs))
+    pub open_before : is_end (get_or rs k []) ≡ true → before_end rs ≡ take k rs
+    unfolding before_end
+    open_before e = o.passed ∙ rw (drop-cons rs k [] h, e) (append-nil (take k rs))
 
-  pub open-over : length rs ≤ k → hasEnd rs ≡ false
-  unfolding hasEnd
-  open-over h = o.end ∙ rw (drop_of_length-le rs h)
+  pub open_over : length rs ≤ k → has_end rs ≡ false
+  unfolding has_end
+  open_over h = o.end ∙ rw (drop_of_length-le rs h)
 
 -- where the header ends in a file
 module _ (f : List ℕ) where
-  pub len-at : (k : ℕ) → Open (records f) k → k < length f / 80 → isEnd (cardAt f k) ≡ true → headerLen f ≡ min (length f) ((k / 36 + 1) * 2880)
-  unfolding headerLen
-  len-at k o p t =
-      let i : k < length (records f) = omega (arith, record-count f) in
-      let e : isEnd (get_or (records f) k []) ≡ true = ap isEnd (record-at f k p) ∙ t in
+  pub len_at : (k : ℕ) → Open (records f) k → k < length f / 80 → is_end (card_at f k) ≡ true → header_len f ≡ min (length f) ((k / 36 + 1) * 2880)
+  unfolding header_len
+  len_at k o p t =
+      let i : k < length (records f) = omega (arith, record_count f) in
+      let e : is_end (get_or (records f) k []) ≡ true = ap is_end (record_at f k p) ∙ t in
       let n : length (take k (records f)) ≡ k = length-take-le k (records f) (omega arith) in
-      rw (open-ends (records f) k o i e, open-before (records f) k o i e, n)
+      rw (open_ends (records f) k o i e, open_before (records f) k o i e, n)
 
-  pub len-over : hasEnd (records f) ≡ false → headerLen f ≡ length f
-  unfolding headerLen
-  len-over e = rw e
+  pub len_over : has_end (records f) ≡ false → header_len f ≡ length f
+  unfolding header_len
+  len_over e = rw e

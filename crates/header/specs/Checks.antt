@@ -4,20 +4,20 @@ use Rattle.std.specs.Prelude.{ℕ, zero, suc, ◌+◌, ◌%◌, List, [], map, B
 use Rattle.ascii.specs.declared.Found.{Found}
 use Rattle.ascii.specs.declared.Found.TheVariants.{At, Nothing}
 use Rattle.refusal.specs.Refusal.{Outcome, accepted, refused, before}
-use Rattle.keyword.specs.Names.{slotNames, position}
-use Rattle.header.specs.Records.{records, hasEnd, names, second, repeated}
+use Rattle.keyword.specs.Names.{slot_names, position}
+use Rattle.header.specs.Records.{records, has_end, names, second, repeated}
 
 -- a header of 0 bytes, above 57,600 or no multiple of 2,880
-unfoldable pub badLength : List ℕ → Bool
-badLength h = eqb (length h) 0 || (ltb 57600 (length h) || not (eqb (length h % 2880) 0))
+unfoldable pub bad_length : List ℕ → Bool
+bad_length h = eqb (length h) 0 || (ltb 57600 (length h) || not (eqb (length h % 2880) 0))
 
 -- 1: its length
 unfoldable pub check1 : List ℕ → Outcome
-check1 h = cond (badLength h) (refused 1 0) accepted
+check1 h = cond (bad_length h) (refused 1 0) accepted
 
 -- 2: no END
 unfoldable pub check2 : List ℕ → Outcome
-check2 h = cond (hasEnd (records h)) accepted (refused 2 0)
+check2 h = cond (has_end (records h)) accepted (refused 2 0)
 
 -- the refusal for the first second one
 abbrev pub repetition : Found → Outcome
@@ -33,15 +33,15 @@ unfoldable pub checked : List ℕ → Outcome
 checked h = before (check1 h) (before (check2 h) (check3 h))
 
 -- the names that are read: none where check 1 or 2 refuses
-unfoldable pub namesRead : List ℕ → List (List ℕ)
-namesRead h = cond (badLength h) [] (cond (hasEnd (records h)) (names h) [])
+unfoldable pub names_read : List ℕ → List (List ℕ)
+names_read h = cond (bad_length h) [] (cond (has_end (records h)) (names h) [])
 
 -- the record of a used name (section 4): the first that has it; and the second
-abbrev pub recordOf : List ℕ → List ℕ → Found
-recordOf h n = position n (namesRead h)
+abbrev pub record_of : List ℕ → List ℕ → Found
+record_of h n = position n (names_read h)
 
-abbrev pub secondOf : List ℕ → List ℕ → Found
-secondOf h n = second n (namesRead h)
+abbrev pub second_of : List ℕ → List ℕ → Found
+second_of h n = second n (names_read h)
 
 -- a record as an entry of an index: 0 for none, else one more than its number
 abbrev pub numbered : Found → ℕ
@@ -54,5 +54,5 @@ placed zero = Nothing
 placed (suc k) = At k
 
 -- an index: for each slot the entry of a record of its name
-unfoldable pub indexBy : (List ℕ → Found) → List ℕ
-indexBy place = map (λ (n : List ℕ). numbered (place n)) slotNames
+unfoldable pub index_by : (List ℕ → Found) → List ℕ
+index_by place = map (λ (n : List ℕ). numbered (place n)) slot_names

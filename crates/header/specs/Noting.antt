@@ -6,9 +6,9 @@ use Rattle.ascii.specs.declared.Found.{Found}
 use Rattle.ascii.specs.declared.Found.TheVariants.{At, Nothing}
 
 -- the entry at a place, 0 for none
-abbrev pub entryAt : List ℕ → Found → ℕ
-entryAt index (At s) = get_or index s 0
-entryAt index Nothing = 0
+abbrev pub entry_at : List ℕ → Found → ℕ
+entry_at index (At s) = get_or index s 0
+entry_at index Nothing = 0
 
 -- an index with this entry at a place
 abbrev pub stored : List ℕ → Found → ℕ → List ℕ
@@ -20,5 +20,5 @@ abbrev pub kept : ℕ → ℕ → ℕ
 kept old entry = cond (eqb old 0) entry old
 
 -- the same for a second record, which needs a first one
-abbrev pub keptAfter : ℕ → ℕ → ℕ → ℕ
-keptAfter first old entry = cond (eqb first 0) old (kept old entry)
+abbrev pub kept_after : ℕ → ℕ → ℕ → ℕ
+kept_after first old entry = cond (eqb first 0) old (kept old entry)

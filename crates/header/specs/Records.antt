@@ -3,28 +3,28 @@
 -- Assumes nothing.
 use Rattle.std.specs.Prelude.{ℕ, ◌+◌, ◌*◌, ◌/◌, min, List, [], ◌∷◌, ◌++◌, map, Bool, true, false, ◌&&◌, ◌||◌, cond, length}
 use Rattle.ascii.specs.Text.{same}
-use Rattle.card.specs.Record.{cardAt, isEnd, nameOf}
+use Rattle.card.specs.Record.{card_at, is_end, name_of}
 use Rattle.ascii.specs.declared.Found.{Found}
 use Rattle.ascii.specs.declared.Found.TheVariants.{At, Nothing}
-use Rattle.keyword.specs.Names.{range, onceNames, later, position}
+use Rattle.keyword.specs.Names.{range, once_names, later, position}
 
 -- the whole records of a header, in order
 unfoldable pub records : List ℕ → List (List ℕ)
-records h = map (cardAt h) (range 0 (length h / 80))
+records h = map (card_at h) (range 0 (length h / 80))
 
 -- whether one of them is END
-unfoldable pub hasEnd : List (List ℕ) → Bool
-hasEnd [] = false
-hasEnd (r ∷ rs) = isEnd r || hasEnd rs
+unfoldable pub has_end : List (List ℕ) → Bool
+has_end [] = false
+has_end (r ∷ rs) = is_end r || has_end rs
 
 -- the records before END; what follows it is not looked at
-unfoldable pub beforeEnd : List (List ℕ) → List (List ℕ)
-beforeEnd [] = []
-beforeEnd (r ∷ rs) = cond (isEnd r) [] (r ∷ beforeEnd rs)
+unfoldable pub before_end : List (List ℕ) → List (List ℕ)
+before_end [] = []
+before_end (r ∷ rs) = cond (is_end r) [] (r ∷ before_end rs)
 
 -- the names of the records before END, one for each record; a record that holds no value has the empty one, which is no used name
 unfoldable pub names : List ℕ → List (List ℕ)
-names h = map nameOf (beforeEnd (records h))
+names h = map name_of (before_end (records h))
 
 -- the second place of a name in a list of names
 unfoldable pub second : List ℕ → List (List ℕ) → Found
@@ -38,14 +38,14 @@ found Nothing = false
 
 -- the first name that must not stand twice and stands in an earlier record, as the number of its record; `seen` are the names of the records before
 -- the list
-unfoldable pub repeatedAfter : List (List ℕ) → List (List ℕ) → Found
-repeatedAfter seen [] = Nothing
-repeatedAfter seen (n ∷ ns) = cond (found (position n onceNames) && found (position n seen)) (At (length seen)) (repeatedAfter (seen ++ (n ∷ [])) ns)
+unfoldable pub repeated_after : List (List ℕ) → List (List ℕ) → Found
+repeated_after seen [] = Nothing
+repeated_after seen (n ∷ ns) = cond (found (position n once_names) && found (position n seen)) (At (length seen)) (repeated_after (seen ++ (n ∷ [])) ns)
 
 abbrev pub repeated : List (List ℕ) → Found
-repeated ns = repeatedAfter [] ns
+repeated ns = repeated_after [] ns
 
 -- where a header ends in the bytes of a file: with the 2,880-byte block, 36 records, that has END, whose number is that of the records before it; at the
 -- latest, and if there is no END, with the file
-unfoldable pub headerLen : List ℕ → ℕ
-headerLen f = cond (hasEnd (records f)) (min (length f) ((length (beforeEnd (records f)) / 36 + 1) * 2880)) (length f)
+unfoldable pub header_len : List ℕ → ℕ
+header_len f = cond (has_end (records f)) (min (length f) ((length (before_end (records f)) / 36 + 1) * 2880)) (length f)

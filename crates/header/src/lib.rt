@@ -4,9 +4,9 @@
 mod records;
 
 ghost use Rattle.std.specs.Prelude.{◌≡◌, get_or};
-ghost use Rattle.header.specs.Records.{headerLen};
-ghost use Rattle.refusal.specs.Refusal.{outcomeOf};
-ghost use Rattle.header.specs.Checks.{checked, recordOf, secondOf, placed, indexBy};
+ghost use Rattle.header.specs.Records.{header_len};
+ghost use Rattle.refusal.specs.Refusal.{outcome_of};
+ghost use Rattle.header.specs.Checks.{checked, record_of, second_of, placed, index_by};
 
 use ascii::Found;
 use keyword::SLOTS;
@@ -39,9 +39,9 @@ pub fn record_of(index: &[u16], slot: usize) -> Found
 // Checks a header and indexes its used names, in one pass over its records. The index is empty where
 // the length is bad or there is no END.
 pub fn parse(header: &[u8]) -> Header
-    ensures check { outcomeOf result.check ≡ checked header.now }
-    ensures first { result.first ≡ indexBy (recordOf header.now) }
-    ensures second { result.second ≡ indexBy (secondOf header.now) }
+    ensures check { outcome_of result.check ≡ checked header.now }
+    ensures first { result.first ≡ index_by (record_of header.now) }
+    ensures second { result.second ≡ index_by (second_of header.now) }
 {
     let n = header.len();
     if n == 0 {
@@ -58,7 +58,7 @@ pub fn parse(header: &[u8]) -> Header
 
 // Where the header ends in the bytes of a file.
 pub fn header_len(file: &[u8]) -> usize
-    ensures { result ≡ headerLen file.now }
+    ensures { result ≡ header_len file.now }
 {
     let count = file.len() / 80;
     let mut k: usize = 0;

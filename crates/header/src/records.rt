@@ -1,10 +1,10 @@
 // The pass over the records. An entry of the index is 0 for none, else one more than the record's number.
 ghost use Rattle.std.specs.Prelude.{◌≡◌, false, ℕ, ◌+◌, ◌*◌, ◌/◌, ◌<◌, ◌^◌, min, length, replicate};
 ghost use Rattle.ascii.specs.declared.Found.TheVariants.{At};
-ghost use Rattle.keyword.specs.Names.{slotNames};
-ghost use Rattle.header.specs.Noting.{entryAt, stored, kept, keptAfter};
-ghost use Rattle.refusal.specs.Refusal.{outcomeOf};
-ghost use Rattle.header.specs.Checks.{badLength, repetition, checked, recordOf, secondOf, placed, indexBy};
+ghost use Rattle.keyword.specs.Names.{slot_names};
+ghost use Rattle.header.specs.Noting.{entry_at, stored, kept, kept_after};
+ghost use Rattle.refusal.specs.Refusal.{outcome_of};
+ghost use Rattle.header.specs.Checks.{bad_length, repetition, checked, record_of, second_of, placed, index_by};
 
 use super::Header;
 use ascii::Found;
@@ -14,7 +14,7 @@ use refusal::{Check, Refusal};
 // A refusal beside the empty index.
 pub fn refused(check: Check) -> Header
     ensures { (result.check ≡ check)
-        × ((result.first ≡ replicate (length slotNames) 0) × (result.second ≡ replicate (length slotNames) 0)) }
+        × ((result.first ≡ replicate (length slot_names) 0) × (result.second ≡ replicate (length slot_names) 0)) }
 {
     Header {
         check,
@@ -47,7 +47,7 @@ fn first_entry(old: u16, entry: u16) -> u16
 
 // The same for a second record, which needs a first one.
 fn second_entry(first: u16, old: u16, entry: u16) -> u16
-    ensures { result ≡ keptAfter first old entry }
+    ensures { result ≡ kept_after first old entry }
 {
     if first == 0 {
         return old;
@@ -58,8 +58,8 @@ fn second_entry(first: u16, old: u16, entry: u16) -> u16
 // Keeps an entry at a place if `first` is not 0, and gives what stood there.
 fn note(index: &mut [u16], place: Found, first: u16, entry: u16) -> u16
     requires { (s : ℕ) → place ≡ At s → s < length index.old }
-    ensures old { result ≡ entryAt index.old place }
-    ensures index { index.new ≡ stored index.old place (keptAfter first (entryAt index.old place) entry) }
+    ensures old { result ≡ entry_at index.old place }
+    ensures index { index.new ≡ stored index.old place (kept_after first (entry_at index.old place) entry) }
 {
     let Found::At(s) = place else {
         return 0;
@@ -70,7 +70,7 @@ fn note(index: &mut [u16], place: Found, first: u16, entry: u16) -> u16
 }
 
 fn check_of(repeated: u16) -> Check
-    ensures { outcomeOf result ≡ repetition (placed repeated) }
+    ensures { outcome_of result ≡ repetition (placed repeated) }
 {
     if repeated == 0 {
         return Check::Passed;
@@ -82,10 +82,10 @@ fn check_of(repeated: u16) -> Check
 
 // What `parse` answers on a header whose length is good.
 pub fn read_records(header: &[u8]) -> Header
-    requires { badLength header.now ≡ false }
-    ensures check { outcomeOf result.check ≡ checked header.now }
-    ensures first { result.first ≡ indexBy (recordOf header.now) }
-    ensures second { result.second ≡ indexBy (secondOf header.now) }
+    requires { bad_length header.now ≡ false }
+    ensures check { outcome_of result.check ≡ checked header.now }
+    ensures first { result.first ≡ index_by (record_of header.now) }
+    ensures second { result.second ≡ index_by (second_of header.now) }
 {
     let count = header.len() / 80;
     let mut first = [0u16; SLOTS];

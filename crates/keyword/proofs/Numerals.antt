@@ -11,8 +11,8 @@ use lib.Dec.{ltb}
 use borrow.Author.Tests.{lt-ltb, le-ltb, ltb-true, ltb-false}
 use Rattle.ascii.specs.declared.Found.TheVariants.{At, Nothing}
 use Rattle.ascii.specs.Text.{decimal}
-use Rattle.keyword.specs.Names.{range, numeral, position, indexLimit}
-use Rattle.keyword.proofs.Position.{position_at, position-no, position-value, position-front, below, range-append, length-range}
+use Rattle.keyword.specs.Names.{range, numeral, position, index_limit}
+use Rattle.keyword.proofs.Position.{position_at, position_no, position_value, position_front, below, range_append, length_range}
 
 -- a digit
 abbrev pub Digit : ℕ → Type 0
@@ -62,15 +62,15 @@ module _ (P : List ℕ → Type 0) (n : ℕ) (below : n < 1000) where
       short false true p q = g (ltb-false n 10 p) (ltb-true n 100 q)
       short false false p q = h (ltb-false n 100 q)
 
-pub numeral-is : (n : ℕ) → 1 ≤ n → n < 1000 → Numeral (numeral n)
-numeral-is n p q =
+pub numeral_is : (n : ℕ) → 1 ≤ n → n < 1000 → Numeral (numeral n)
+numeral_is n p q =
     by_length Numeral n q (λ r. one (48 + n) (omega arith) (λ e. omega arith))
     (λ r t. two (48 + n / 10) (48 + n % 10) (omega arith) (omega arith) (λ e. omega arith))
     (λ r. three (48 + n / 100) (48 + n / 10 % 10) (48 + n % 10) (omega arith) (omega arith) (omega arith) (λ e. omega arith))
 
-pub value-numeral : (n : ℕ) → n < 1000 → decimal 0 (numeral n) ≡ n
+pub value_numeral : (n : ℕ) → n < 1000 → decimal 0 (numeral n) ≡ n
 unfolding decimal
-value-numeral n q = by_length (λ s. decimal 0 s ≡ n) n q (λ r. omega arith) (λ r t. omega arith) (λ r. omega arith)
+value_numeral n q = by_length (λ s. decimal 0 s ≡ n) n q (λ r. omega arith) (λ r t. omega arith) (λ r. omega arith)
 
 -- what a numeral says, and that it is the numeral of what it says
 pub record Says (s : List ℕ) : Type 0 where
@@ -81,16 +81,16 @@ pub record Says (s : List ℕ) : Type 0 where
 middle : (k b : ℕ) → Digit b → 48 + (k * 10 + (b - 48)) % 10 ≡ b
 middle k b e = omega arith
 
-pub numeral-says : (s : List ℕ) → Numeral s → Says s
+pub numeral_says : (s : List ℕ) → Numeral s → Says s
 unfolding numeral decimal
-numeral-says [] h = absurd (omega arith)
-numeral-says (a ∷ []) h =
+numeral_says [] h = absurd (omega arith)
+numeral_says (a ∷ []) h =
     let d = h.digits 0 (omega arith) in
     let f : a ≡ 48 → ⊥ = h.first in
     let v : ℕ = decimal 0 (a ∷ []) in
     let p : 48 + v ≡ a = omega arith in
     record { least = omega arith; most = omega arith; again = rw (lt-ltb v 10 (omega arith), p) }
-numeral-says (a ∷ b ∷ []) h =
+numeral_says (a ∷ b ∷ []) h =
     let d = h.digits 0 (omega arith) in
     let e = h.digits 1 (omega arith) in
     let f : a ≡ 48 → ⊥ = h.first in
@@ -98,7 +98,7 @@ numeral-says (a ∷ b ∷ []) h =
     let p : 48 + v / 10 ≡ a = omega arith in
     let q : 48 + v % 10 ≡ b = omega arith in
     record { least = omega arith; most = omega arith; again = rw (le-ltb v 10 (omega arith), lt-ltb v 100 (omega arith), p, q) }
-numeral-says (a ∷ b ∷ c ∷ []) h =
+numeral_says (a ∷ b ∷ c ∷ []) h =
     let d = h.digits 0 (omega arith) in
     let e = h.digits 1 (omega arith) in
     let g = h.digits 2 (omega arith) in
@@ -109,44 +109,44 @@ numeral-says (a ∷ b ∷ c ∷ []) h =
     let q : 48 + v / 10 % 10 ≡ b = rw m (middle (a - 48) b e) in
     let r : 48 + v % 10 ≡ c = omega arith in
     record { least = omega arith; most = omega arith; again = rw (le-ltb v 10 (omega arith), le-ltb v 100 (omega arith), p, q, r) }
-numeral-says (a ∷ b ∷ c ∷ d ∷ s) h = absurd (omega arith)
+numeral_says (a ∷ b ∷ c ∷ d ∷ s) h = absurd (omega arith)
 
 -- the numerals of 1 to 999 are distinct
-pub numeral-injective : (m n : ℕ) → m < 1000 → n < 1000 → numeral m ≡ numeral n → m ≡ n
-numeral-injective m n p q e = sym (value-numeral m p) ∙ ap (decimal 0) e ∙ value-numeral n q
+pub numeral_injective : (m n : ℕ) → m < 1000 → n < 1000 → numeral m ≡ numeral n → m ≡ n
+numeral_injective m n p q e = sym (value_numeral m p) ∙ ap (decimal 0) e ∙ value_numeral n q
 
-pub index-at : (n : ℕ) → 1 ≤ n → n ≤ indexLimit → position (numeral n) (map numeral (range 1 indexLimit)) ≡ At (n - 1)
-index-at n p q = position-value numeral n 1 indexLimit (λ k u v. numeral-injective n k (omega arith) (omega arith)) p (omega arith)
+pub index_at : (n : ℕ) → 1 ≤ n → n ≤ index_limit → position (numeral n) (map numeral (range 1 index_limit)) ≡ At (n - 1)
+index_at n p q = position_value numeral n 1 index_limit (λ k u v. numeral_injective n k (omega arith) (omega arith)) p (omega arith)
 
-pub index-of : (s : List ℕ) → Numeral s → position s (map numeral (range 1 indexLimit)) ≡ At (decimal 0 s - 1)
-index-of s h =
-    let t = numeral-says s h in
-    subst (λ (l : List ℕ). position l (map numeral (range 1 indexLimit)) ≡ At (decimal 0 s - 1)) t.again
-    (index-at (decimal 0 s) t.least (omega (arith, t.most)))
+pub index_of : (s : List ℕ) → Numeral s → position s (map numeral (range 1 index_limit)) ≡ At (decimal 0 s - 1)
+index_of s h =
+    let t = numeral_says s h in
+    subst (λ (l : List ℕ). position l (map numeral (range 1 index_limit)) ≡ At (decimal 0 s - 1)) t.again
+    (index_at (decimal 0 s) t.least (omega (arith, t.most)))
 
-pub index-none : (s : List ℕ) → (Numeral s → ⊥) → position s (map numeral (range 1 indexLimit)) ≡ Nothing
-index-none s h = position-no s numeral 1 indexLimit (λ k p q e. h (subst Numeral (sym e) (numeral-is k p q)))
+pub index_none : (s : List ℕ) → (Numeral s → ⊥) → position s (map numeral (range 1 index_limit)) ≡ Nothing
+index_none s h = position_no s numeral 1 index_limit (λ k p q e. h (subst Numeral (sym e) (numeral_is k p q)))
 
-pub index-below : (s : List ℕ) (k : ℕ) → position s (map numeral (range 1 indexLimit)) ≡ At k → k < indexLimit
-index-below s k h =
-    subst (λ (l : ℕ). k < l) (length-map (range 1 indexLimit) numeral ∙ length-range 1 indexLimit)
-    (position_at s (map numeral (range 1 indexLimit)) k h).0
+pub index_below : (s : List ℕ) (k : ℕ) → position s (map numeral (range 1 index_limit)) ≡ At k → k < index_limit
+index_below s k h =
+    subst (λ (l : ℕ). k < l) (length-map (range 1 index_limit) numeral ∙ length_range 1 index_limit)
+    (position_at s (map numeral (range 1 index_limit)) k h).0
 
 -- among the first numerals
-pub index-front : (s : List ℕ) (count : ℕ) → count ≤ indexLimit → position s (map numeral (range 1 count)) ≡ below count (position s (map numeral (range 1 indexLimit)))
-index-front s count h =
-    let m = map numeral (range 1 count) in let t = map numeral (range (1 + count) (indexLimit - count)) in
-    let l : length m ≡ count = length-map (range 1 count) numeral ∙ length-range 1 count in
-    let e : map numeral (range 1 indexLimit) ≡ m ++ t =
-    ap (λ (k : ℕ). map numeral (range 1 k)) (omega arith) ∙ ap (map numeral) (range-append 1 count (indexLimit - count)) ∙ map-append numeral (range 1 count) _ in
-    position-front s m t ∙ rw (l, ← e)
+pub index_front : (s : List ℕ) (count : ℕ) → count ≤ index_limit → position s (map numeral (range 1 count)) ≡ below count (position s (map numeral (range 1 index_limit)))
+index_front s count h =
+    let m = map numeral (range 1 count) in let t = map numeral (range (1 + count) (index_limit - count)) in
+    let l : length m ≡ count = length-map (range 1 count) numeral ∙ length_range 1 count in
+    let e : map numeral (range 1 index_limit) ≡ m ++ t =
+    ap (λ (k : ℕ). map numeral (range 1 k)) (omega arith) ∙ ap (map numeral) (range_append 1 count (index_limit - count)) ∙ map-append numeral (range 1 count) _ in
+    position_front s m t ∙ rw (l, ← e)
 
 -- how a loop reads the number, one digit at a time
 module _ (s : List ℕ) (n i : ℕ) where
-  pub value-next : i < length s → decimal n (drop i s) ≡ decimal (n * 10 + (get_or s i 0 - 48)) (drop (suc i) s)
+  pub value_next : i < length s → decimal n (drop i s) ≡ decimal (n * 10 + (get_or s i 0 - 48)) (drop (suc i) s)
   unfolding decimal
-  value-next h = rw (drop-cons s i 0 h)
+  value_next h = rw (drop-cons s i 0 h)
 
-  pub value-ends : length s ≤ i → decimal n (drop i s) ≡ n
+  pub value_ends : length s ≤ i → decimal n (drop i s) ≡ n
   unfolding decimal
-  value-ends h = rw (drop_of_length-le s h)
+  value_ends h = rw (drop_of_length-le s h)

@@ -12,13 +12,13 @@ use lib.Seq.{take_all, take_at, drop-append-add}
 use lib.Dec.{ltb}
 use borrow.Author.Tests.{lt-ltb}
 use Rattle.ascii.specs.Text.{bytes, same}
-use Rattle.ascii.proofs.Cases.{either, by-test}
-use Rattle.ascii.proofs.Same.{same-true, same-not}
+use Rattle.ascii.proofs.Cases.{either, by_test}
+use Rattle.ascii.proofs.Same.{same_true, same_not}
 use Rattle.ascii.specs.declared.Found.{Found}
 use Rattle.ascii.specs.declared.Found.TheVariants.{At, Nothing}
-use Rattle.keyword.specs.Names.{later, further, range, numeral, indexLimit, columnSlots, indexed, single, onceRoots, otherRoots, roots, namesUpTo, slotNames, onceNames, position}
-use Rattle.keyword.proofs.Position.{or-else, further-zero, below, position-append, position-front, position_at, position-root, position-no, length-range, map-at}
-use Rattle.keyword.proofs.Numerals.{index-front, index-below}
+use Rattle.keyword.specs.Names.{later, further, range, numeral, index_limit, column_slots, indexed, single, once_roots, other_roots, roots, names_up_to, slot_names, once_names, position}
+use Rattle.keyword.proofs.Position.{or_else, further_zero, below, position_append, position_front, position_at, position_root, position_no, length_range, map_at}
+use Rattle.keyword.proofs.Numerals.{index_front, index_below}
 
 -- each root has five bytes
 abbrev Fives : List (List ℕ) → Type 0
@@ -31,44 +31,44 @@ pub record Rooted (rs : List (List ℕ)) : Type 0 where
   pub own : map (λ (x : List ℕ). position x rs) rs ≡ map At (range 0 (length rs))
   pub apart : map (λ (x : List ℕ). position (take 5 x) rs) single ≡ map (λ (x : List ℕ). Nothing) single
 
-pub all-rooted : Rooted roots
-unfolding onceRoots otherRoots single position range bytes same
-all-rooted = record { fives = refl; own = refl; apart = refl }
+pub all_rooted : Rooted roots
+unfolding once_roots other_roots single position range bytes same
+all_rooted = record { fives = refl; own = refl; apart = refl }
 
-pub once-rooted : Rooted onceRoots
-unfolding onceRoots single position range bytes same
-once-rooted = record { fives = refl; own = refl; apart = refl }
+pub once_rooted : Rooted once_roots
+unfolding once_roots single position range bytes same
+once_rooted = record { fives = refl; own = refl; apart = refl }
 
-pub length-indexed : (count : ℕ) (root : List ℕ) → length (indexed count root) ≡ count
+pub length_indexed : (count : ℕ) (root : List ℕ) → length (indexed count root) ≡ count
 unfolding indexed
-length-indexed count root = rw (length-map, length-range)
+length_indexed count root = rw (length-map, length_range)
 
-or_nothing : (f : Found) → or-else f Nothing ≡ f
+or_nothing : (f : Found) → or_else f Nothing ≡ f
 or_nothing (At k) = refl
 or_nothing Nothing = refl
 
-further-further : (a b : ℕ) (f : Found) → further a (further b f) ≡ further (a + b) f
-further-further a b (At k) = ap At (omega arith)
-further-further a b Nothing = refl
+further_further : (a b : ℕ) (f : Found) → further a (further b f) ≡ further (a + b) f
+further_further a b (At k) = ap At (omega arith)
+further_further a b Nothing = refl
 
 -- the place of name d of root r, where each root has `count` names
 abbrev times : ℕ → Found → Found → Found
 times count (At r) d = further (r * count) d
 times count Nothing d = Nothing
 
-times-nothing : (count : ℕ) (f : Found) → times count f Nothing ≡ Nothing
-times-nothing count (At r) = refl
-times-nothing count Nothing = refl
+times_nothing : (count : ℕ) (f : Found) → times count f Nothing ≡ Nothing
+times_nothing count (At r) = refl
+times_nothing count Nothing = refl
 
-times-later : (count : ℕ) (f d : Found) → further count (times count f d) ≡ times count (later f) d
-times-later count (At r) d =
-    rw suc-mul (further-further count (r * count) d ∙ ap (λ (b : ℕ). further b d) (omega arith))
-times-later count Nothing d = refl
+times_later : (count : ℕ) (f d : Found) → further count (times count f d) ≡ times count (later f) d
+times_later count (At r) d =
+    rw suc-mul (further_further count (r * count) d ∙ ap (λ (b : ℕ). further b d) (omega arith))
+times_later count Nothing d = refl
 
 -- a name with a root in front is no single name
-pub none-single : (n : List ℕ) (rs : List (List ℕ)) → Rooted rs → (r : ℕ) → position (take 5 n) rs ≡ At r
+pub none_single : (n : List ℕ) (rs : List (List ℕ)) → Rooted rs → (r : ℕ) → position (take 5 n) rs ≡ At r
     → position n single ≡ Nothing
-none-single n rs w r e = by (position n single) refl
+none_single n rs w r e = by (position n single) refl
   where
     by : (f : Found) → position n single ≡ f → f ≡ Nothing
     by Nothing q = refl
@@ -76,41 +76,41 @@ none-single n rs w r e = by (position n single) refl
         let p = position_at n single s q in
         let g : List ℕ → Found = λ x. position (take 5 x) rs in
         let u : g (get_or single s []) ≡ Nothing =
-        sym (map-at g single s Nothing p.0) ∙ ap (λ (l : List Found). get_or l s Nothing) w.apart
-        ∙ map-at (λ (x : List ℕ). Nothing) single s Nothing p.0 in
+        sym (map_at g single s Nothing p.0) ∙ ap (λ (l : List Found). get_or l s Nothing) w.apart
+        ∙ map_at (λ (x : List ℕ). Nothing) single s Nothing p.0 in
         let v = rw p.1 at u in
         absurd (let z : ◌≡◌ {A = ℕ} 0 1 = cc in omega arith)
 
 -- of the first root of a list and the others
 module _ (root : List ℕ) (rs : List (List ℕ)) where
-  first-five : Fives (root ∷ rs) → length root ≡ 5
-  first-five e = ap (λ (l : List ℕ). get_or l 0 0) e
+  first_five : Fives (root ∷ rs) → length root ≡ 5
+  first_five e = ap (λ (l : List ℕ). get_or l 0 0) e
 
-  other-fives : Fives (root ∷ rs) → Fives rs
-  other-fives e = ap (drop 1) e
+  other_fives : Fives (root ∷ rs) → Fives rs
+  other_fives e = ap (drop 1) e
 
-pub root-length : (rs : List (List ℕ)) (r : ℕ) → Fives rs → r < length rs → length (get_or rs r []) ≡ 5
-root-length [] r h p = absurd (omega arith)
-root-length (root ∷ rs) zero h p = first-five root rs h
-root-length (root ∷ rs) (suc r) h p = root-length rs r (other-fives root rs h) (le_of_suc-le-suc p)
+pub root_length : (rs : List (List ℕ)) (r : ℕ) → Fives rs → r < length rs → length (get_or rs r []) ≡ 5
+root_length [] r h p = absurd (omega arith)
+root_length (root ∷ rs) zero h p = first_five root rs h
+root_length (root ∷ rs) (suc r) h p = root_length rs r (other_fives root rs h) (le_of_suc-le-suc p)
 
 -- the roots one after the other
-pub words-length : (rs : List (List ℕ)) → Fives rs → length (flatten rs) ≡ length rs * 5
+pub words_length : (rs : List (List ℕ)) → Fives rs → length (flatten rs) ≡ length rs * 5
 unfolding flatten
-words-length [] h = refl
-words-length (root ∷ rs) h =
-    rw (length-append, words-length rs (other-fives root rs h), first-five root rs h) (omega arith)
+words_length [] h = refl
+words_length (root ∷ rs) h =
+    rw (length-append, words_length rs (other_fives root rs h), first_five root rs h) (omega arith)
 
-pub word-at : (rs : List (List ℕ)) (r : ℕ) → Fives rs → r < length rs
+pub word_at : (rs : List (List ℕ)) (r : ℕ) → Fives rs → r < length rs
     → take 5 (drop (r * 5) (flatten rs)) ≡ get_or rs r []
 unfolding flatten
-word-at [] r h p = absurd (omega arith)
-word-at (root ∷ rs) zero h p = take_at root (flatten rs) 5 (first-five root rs h)
-word-at (root ∷ rs) (suc r) h p =
-    let e : suc r * 5 ≡ length root + r * 5 = omega (arith, first-five root rs h) in
+word_at [] r h p = absurd (omega arith)
+word_at (root ∷ rs) zero h p = take_at root (flatten rs) 5 (first_five root rs h)
+word_at (root ∷ rs) (suc r) h p =
+    let e : suc r * 5 ≡ length root + r * 5 = omega (arith, first_five root rs h) in
     let d : drop (suc r * 5) (root ++ flatten rs)
     ≡ drop (r * 5) (flatten rs) = rw e (drop-append-add root (flatten rs) (r * 5)) in
-    ap (take 5) d ∙ word-at rs r (other-fives root rs h) (le_of_suc-le-suc p)
+    ap (take 5) d ∙ word_at rs r (other_fives root rs h) (le_of_suc-le-suc p)
 
 module _ (n : List ℕ) (count : ℕ) where
   -- the bytes after the root as a numeral
@@ -122,96 +122,96 @@ module _ (n : List ℕ) (count : ℕ) where
     not_root : same (take 5 n) root ≡ false → position n (indexed count root) ≡ Nothing
     unfolding indexed
     not_root e =
-        position-no n (λ (k : ℕ). root ++ numeral k) 1 count
-        (λ k p q w. same-not (take 5 n) root e (ap (take 5) w ∙ take_at root (numeral k) 5 h))
+        position_no n (λ (k : ℕ). root ++ numeral k) 1 count
+        (λ k p q w. same_not (take 5 n) root e (ap (take 5) w ∙ take_at root (numeral k) 5 h))
 
-    is-root : same (take 5 n) root ≡ true → position n (indexed count root) ≡ digits
+    is_root : same (take 5 n) root ≡ true → position n (indexed count root) ≡ digits
     unfolding indexed
-    is-root e =
-        let m = sym (take-append-drop 5 n) ∙ ap (λ (l : List ℕ). l ++ drop 5 n) (same-true (take 5 n) root e) in
-        ap (λ (l : List ℕ). position l (indexed count root)) m ∙ position-root root (drop 5 n) numeral (range 1 count)
+    is_root e =
+        let m = sym (take-append-drop 5 n) ∙ ap (λ (l : List ℕ). l ++ drop 5 n) (same_true (take 5 n) root e) in
+        ap (λ (l : List ℕ). position l (indexed count root)) m ∙ position_root root (drop 5 n) numeral (range 1 count)
 
   -- the first of several roots is in front
-  first : (f d : Found) → or-else d (further count (times count f d)) ≡ times count (At 0) d
-  first f (At k) = rw zero-mul (sym (further-zero (At k)))
-  first f Nothing = ap (further count) (times-nothing count f)
+  first : (f d : Found) → or_else d (further count (times count f d)) ≡ times count (At 0) d
+  first f (At k) = rw zero-mul (sym (further_zero (At k)))
+  first f Nothing = ap (further count) (times_nothing count f)
 
   -- the names of all roots, by the place of the first five bytes among the roots
-  in-roots : (rs : List (List ℕ)) → Fives rs
+  in_roots : (rs : List (List ℕ)) → Fives rs
       → position n (flat_map (indexed count) rs) ≡ times count (position (take 5 n) rs) digits
   unfolding flat_map position
-  in-roots [] h = refl
-  in-roots (root ∷ rs) h =
-      let l = first-five root rs h in let f = position (take 5 n) rs in
-      position-append n (indexed count root) (flat_map (indexed count) rs)
-      ∙ rw (length-indexed count root, in-roots rs (other-fives root rs h))
-      (either (same (take 5 n) root) (λ t. rw (t, is-root root l t) (first f digits))
-      (λ t. rw (t, not_root root l t) (times-later count f digits)))
+  in_roots [] h = refl
+  in_roots (root ∷ rs) h =
+      let l = first_five root rs h in let f = position (take 5 n) rs in
+      position_append n (indexed count root) (flat_map (indexed count) rs)
+      ∙ rw (length_indexed count root, in_roots rs (other_fives root rs h))
+      (either (same (take 5 n) root) (λ t. rw (t, is_root root l t) (first f digits))
+      (λ t. rw (t, not_root root l t) (times_later count f digits)))
 
   -- all the names
-  module _ (most : count ≤ indexLimit) (rs : List (List ℕ)) (w : Rooted rs) where
-    names-parts : position n (namesUpTo count rs)
-        ≡ or-else (position n single) (further (length single) (times count (position (take 5 n) rs) digits))
-    names-parts = position-append n single (flat_map (indexed count) rs) ∙ rw (in-roots rs w.fives)
+  module _ (most : count ≤ index_limit) (rs : List (List ℕ)) (w : Rooted rs) where
+    names_parts : position n (names_up_to count rs)
+        ≡ or_else (position n single) (further (length single) (times count (position (take 5 n) rs) digits))
+    names_parts = position_append n single (flat_map (indexed count) rs) ∙ rw (in_roots rs w.fives)
 
-    pub names-single : position (take 5 n) rs ≡ Nothing → position n (namesUpTo count rs) ≡ position n single
-    names-single e = names-parts ∙ rw e (or_nothing (position n single))
+    pub names_single : position (take 5 n) rs ≡ Nothing → position n (names_up_to count rs) ≡ position n single
+    names_single e = names_parts ∙ rw e (or_nothing (position n single))
 
-    pub names-root : (r : ℕ) → position (take 5 n) rs ≡ At r
-        → position n (namesUpTo count rs)
-        ≡ further (length single + r * count) (below count (position (drop 5 n) (map numeral (range 1 indexLimit))))
-    names-root r e =
-        names-parts ∙ rw (none-single n rs w r e, e) (further-further (length single) (r * count) digits)
-        ∙ ap (further (length single + r * count)) (index-front (drop 5 n) count most)
+    pub names_root : (r : ℕ) → position (take 5 n) rs ≡ At r
+        → position n (names_up_to count rs)
+        ≡ further (length single + r * count) (below count (position (drop 5 n) (map numeral (range 1 index_limit))))
+    names_root r e =
+        names_parts ∙ rw (none_single n rs w r e, e) (further_further (length single) (r * count) digits)
+        ∙ ap (further (length single + r * count)) (index_front (drop 5 n) count most)
 
 -- the places that the code gives, by the first five bytes of a name
 module _ (n : List ℕ) where
   -- the bytes after the root
   abbrev index : Found
-  index = position (drop 5 n) (map numeral (range 1 indexLimit))
+  index = position (drop 5 n) (map numeral (range 1 index_limit))
 
-  once-root : position (take 5 n) onceRoots ≡ below (length onceRoots) (position (take 5 n) roots)
-  once-root = position-front (take 5 n) onceRoots otherRoots
+  once_root : position (take 5 n) once_roots ≡ below (length once_roots) (position (take 5 n) roots)
+  once_root = position_front (take 5 n) once_roots other_roots
 
-  pub short-name : length n < 5 → position (take 5 n) roots ≡ Nothing
-  short-name h = rw (take_all 5 n (omega arith)) (by (position n roots) refl)
+  pub short_name : length n < 5 → position (take 5 n) roots ≡ Nothing
+  short_name h = rw (take_all 5 n (omega arith)) (by (position n roots) refl)
     where
       by : (f : Found) → position n roots ≡ f → f ≡ Nothing
       by Nothing q = refl
       by (At s) q =
           let p = position_at n roots s q in
-          let l = rw p.1 at (root-length roots s all-rooted.fives p.0) in
+          let l = rw p.1 at (root_length roots s all_rooted.fives p.0) in
           absurd (omega arith)
 
   module _ (e : position (take 5 n) roots ≡ Nothing) where
-    pub single-slot : position n slotNames ≡ position n single
-    unfolding slotNames
-    single-slot = names-single n columnSlots (omega arith) roots all-rooted e
+    pub single_slot : position n slot_names ≡ position n single
+    unfolding slot_names
+    single_slot = names_single n column_slots (omega arith) roots all_rooted e
 
-    pub single-once : position n onceNames ≡ position n single
-    unfolding onceNames
-    single-once =
-        names-single n indexLimit (omega arith) onceRoots once-rooted (once-root ∙ ap (below (length onceRoots)) e)
+    pub single_once : position n once_names ≡ position n single
+    unfolding once_names
+    single_once =
+        names_single n index_limit (omega arith) once_roots once_rooted (once_root ∙ ap (below (length once_roots)) e)
 
   module _ (r : ℕ) (e : position (take 5 n) roots ≡ At r) where
-    pub rooted-slot : position n slotNames ≡ further (length single + r * columnSlots) (below columnSlots index)
-    unfolding slotNames
-    rooted-slot = names-root n columnSlots (omega arith) roots all-rooted r e
+    pub rooted_slot : position n slot_names ≡ further (length single + r * column_slots) (below column_slots index)
+    unfolding slot_names
+    rooted_slot = names_root n column_slots (omega arith) roots all_rooted r e
 
-    limited : (f : Found) → index ≡ f → below indexLimit f ≡ f
-    limited (At k) q = rw (lt-ltb k indexLimit (index-below (drop 5 n) k q))
+    limited : (f : Found) → index ≡ f → below index_limit f ≡ f
+    limited (At k) q = rw (lt-ltb k index_limit (index_below (drop 5 n) k q))
     limited Nothing q = refl
 
-    pub rooted-once : position n onceNames
-        ≡ cond (ltb r (length onceRoots)) (further (length single + r * indexLimit) index) Nothing
-    unfolding onceNames
-    rooted-once =
-        let f = once-root ∙ ap (below (length onceRoots)) e in
-        by-test (λ (x : Found). position n onceNames ≡ x) (ltb r (length onceRoots))
-        (λ t. names-root n indexLimit (omega arith) onceRoots once-rooted r (rw t at f)
-        ∙ ap (further (length single + r * indexLimit)) (limited index refl))
-        (λ t. names-single n indexLimit (omega arith) onceRoots once-rooted (rw t at f)
-        ∙ none-single n roots all-rooted r e)
+    pub rooted_once : position n once_names
+        ≡ cond (ltb r (length once_roots)) (further (length single + r * index_limit) index) Nothing
+    unfolding once_names
+    rooted_once =
+        let f = once_root ∙ ap (below (length once_roots)) e in
+        by_test (λ (x : Found). position n once_names ≡ x) (ltb r (length once_roots))
+        (λ t. names_root n index_limit (omega arith) once_roots once_rooted r (rw t at f)
+        ∙ ap (further (length single + r * index_limit)) (limited index refl))
+        (λ t. names_single n index_limit (omega arith) once_roots once_rooted (rw t at f)
+        ∙ none_single n roots all_rooted r e)
 
-    pub none-once : index ≡ Nothing → position n onceNames ≡ Nothing
-    none-once d = rooted-once ∙ rw d (either (ltb r (length onceRoots)) (λ t. rw t) (λ t. rw t))
+    pub none_once : index ≡ Nothing → position n once_names ≡ Nothing
+    none_once d = rooted_once ∙ rw d (either (ltb r (length once_roots)) (λ t. rw t) (λ t. rw t))

@@ -14,7 +14,7 @@ use Rattle.ascii.specs.declared.Found.{Found}
 use Rattle.ascii.specs.declared.Found.TheVariants.{At, Nothing}
 use Rattle.ascii.specs.Text.{same}
 use Rattle.keyword.specs.Names.{further, range, later, position}
-use Rattle.ascii.proofs.Same.{same-true, same-refl, same-false, same-root}
+use Rattle.ascii.proofs.Same.{same_true, same_refl, same_false, same_root}
 
 module _ (n x : List ℕ) (xs : List (List ℕ)) where
   pub position_here : same n x ≡ true → position n (x ∷ xs) ≡ At 0
@@ -27,58 +27,58 @@ module _ (n x : List ℕ) (xs : List (List ℕ)) where
 
 -- a place is below the length, and the name stands there
 module _ (n : List ℕ) where
-  later-at : (x : List ℕ) (xs : List (List ℕ)) → ((s : ℕ) → position n xs ≡ At s → (s < length xs) × (get_or xs s [] ≡ n))
+  later_at : (x : List ℕ) (xs : List (List ℕ)) → ((s : ℕ) → position n xs ≡ At s → (s < length xs) × (get_or xs s [] ≡ n))
       → (f : Found) → position n xs ≡ f → (s : ℕ) → later f ≡ At s → (s < length (x ∷ xs)) × (get_or (x ∷ xs) s [] ≡ n)
-  later-at x xs ih Nothing e s h = let z : ◌≡◌ {A = ℕ} 0 1 = cc in absurd (omega arith)
-  later-at x xs ih (At k) e zero h = let z : suc k ≡ 0 = cc in absurd (omega arith)
-  later-at x xs ih (At k) e (suc s) h =
+  later_at x xs ih Nothing e s h = let z : ◌≡◌ {A = ℕ} 0 1 = cc in absurd (omega arith)
+  later_at x xs ih (At k) e zero h = let z : suc k ≡ 0 = cc in absurd (omega arith)
+  later_at x xs ih (At k) e (suc s) h =
       let z : suc k ≡ suc s = cc in
       let y : k ≡ s = omega arith in
       let w = ih s (e ∙ ap At y) in
       (omega arith, w.1)
 
-  here-at : (t : Bool) (x : List ℕ) (xs : List (List ℕ)) → same n x ≡ t → ((s : ℕ) → later (position n xs) ≡ At s → (s < length (x ∷ xs)) × (get_or (x ∷ xs) s [] ≡ n))
+  here_at : (t : Bool) (x : List ℕ) (xs : List (List ℕ)) → same n x ≡ t → ((s : ℕ) → later (position n xs) ≡ At s → (s < length (x ∷ xs)) × (get_or (x ∷ xs) s [] ≡ n))
       → (s : ℕ) → cond t (At 0) (later (position n xs)) ≡ At s → (s < length (x ∷ xs)) × (get_or (x ∷ xs) s [] ≡ n)
-  here-at true x xs e ih zero h = (omega arith, sym (same-true n x e))
-  here-at true x xs e ih (suc s) h = let z : 0 ≡ suc s = cc in absurd (omega arith)
-  here-at false x xs e ih s h = ih s h
+  here_at true x xs e ih zero h = (omega arith, sym (same_true n x e))
+  here_at true x xs e ih (suc s) h = let z : 0 ≡ suc s = cc in absurd (omega arith)
+  here_at false x xs e ih s h = ih s h
 
   pub position_at : (xs : List (List ℕ)) (s : ℕ) → position n xs ≡ At s → (s < length xs) × (get_or xs s [] ≡ n)
   unfolding position
   position_at [] s h = let z : ◌≡◌ {A = ℕ} 0 1 = cc in absurd (omega arith)
-  position_at (x ∷ xs) s h = here-at (same n x) x xs refl (later-at x xs (position_at xs) (position n xs) refl) s h
+  position_at (x ∷ xs) s h = here_at (same n x) x xs refl (later_at x xs (position_at xs) (position n xs) refl) s h
 
 -- the first place of two
-abbrev pub or-else : Found → Found → Found
-or-else (At k) g = At k
-or-else Nothing g = g
+abbrev pub or_else : Found → Found → Found
+or_else (At k) g = At k
+or_else Nothing g = g
 
-pub further-zero : (f : Found) → further 0 f ≡ f
-further-zero (At k) = ap At (zero-add k)
-further-zero Nothing = refl
+pub further_zero : (f : Found) → further 0 f ≡ f
+further_zero (At k) = ap At (zero-add k)
+further_zero Nothing = refl
 
-further-suc : (by : ℕ) (f : Found) → further (suc by) f ≡ later (further by f)
-further-suc by (At k) = ap At (suc-add by k)
-further-suc by Nothing = refl
+further_suc : (by : ℕ) (f : Found) → further (suc by) f ≡ later (further by f)
+further_suc by (At k) = ap At (suc-add by k)
+further_suc by Nothing = refl
 
-further-later : (by : ℕ) (f : Found) → further by (later f) ≡ further (suc by) f
-further-later by (At k) = ap At (omega arith)
-further-later by Nothing = refl
+further_later : (by : ℕ) (f : Found) → further by (later f) ≡ further (suc by) f
+further_later by (At k) = ap At (omega arith)
+further_later by Nothing = refl
 
-later-or : (f g : Found) → later (or-else f g) ≡ or-else (later f) (later g)
-later-or (At k) g = refl
-later-or Nothing g = refl
+later_or : (f g : Found) → later (or_else f g) ≡ or_else (later f) (later g)
+later_or (At k) g = refl
+later_or Nothing g = refl
 
-cond-or : (t : Bool) (f g : Found) → cond t (At 0) (or-else f g) ≡ or-else (cond t (At 0) f) g
-cond-or true f g = refl
-cond-or false f g = refl
+cond_or : (t : Bool) (f g : Found) → cond t (At 0) (or_else f g) ≡ or_else (cond t (At 0) f) g
+cond_or true f g = refl
+cond_or false f g = refl
 
 -- in two lists, one after the other
-pub position-append : (n : List ℕ) (xs ys : List (List ℕ)) → position n (xs ++ ys) ≡ or-else (position n xs) (further (length xs) (position n ys))
+pub position_append : (n : List ℕ) (xs ys : List (List ℕ)) → position n (xs ++ ys) ≡ or_else (position n xs) (further (length xs) (position n ys))
 unfolding position
-position-append n [] ys = sym (further-zero (position n ys))
-position-append n (x ∷ xs) ys =
-    rw (position-append n xs ys, later-or, ← further-suc) (cond-or (same n x) (later (position n xs)) (further (suc (length xs)) (position n ys)))
+position_append n [] ys = sym (further_zero (position n ys))
+position_append n (x ∷ xs) ys =
+    rw (position_append n xs ys, later_or, ← further_suc) (cond_or (same n x) (later (position n xs)) (further (suc (length xs)) (position n ys)))
 
 -- a place, if it is below m
 abbrev pub below : ℕ → Found → Found
@@ -86,73 +86,73 @@ below m (At k) = cond (ltb k m) (At k) Nothing
 below m Nothing = Nothing
 
 -- in the first of two lists, one after the other
-pub position-front : (n : List ℕ) (xs ys : List (List ℕ)) → position n xs ≡ below (length xs) (position n (xs ++ ys))
-position-front n xs ys = by (position n xs) refl ∙ ap (below (length xs)) (sym (position-append n xs ys))
+pub position_front : (n : List ℕ) (xs ys : List (List ℕ)) → position n xs ≡ below (length xs) (position n (xs ++ ys))
+position_front n xs ys = by (position n xs) refl ∙ ap (below (length xs)) (sym (position_append n xs ys))
   where
     past : (f : Found) → Nothing ≡ below (length xs) (further (length xs) f)
     past (At k) = rw (le-ltb (length xs + k) (length xs) (omega arith))
     past Nothing = refl
 
-    by : (f : Found) → position n xs ≡ f → f ≡ below (length xs) (or-else f (further (length xs) (position n ys)))
+    by : (f : Found) → position n xs ≡ f → f ≡ below (length xs) (or_else f (further (length xs) (position n ys)))
     by (At k) e = rw (lt-ltb k (length xs) (position_at n xs k e).0)
     by Nothing e = past (position n ys)
 
 -- where each name has the same bytes in front, they say nothing
-pub position-root : (root n : List ℕ) (f : ℕ → List ℕ) (xs : List ℕ) → position (root ++ n) (map (λ (k : ℕ). root ++ f k) xs) ≡ position n (map f xs)
+pub position_root : (root n : List ℕ) (f : ℕ → List ℕ) (xs : List ℕ) → position (root ++ n) (map (λ (k : ℕ). root ++ f k) xs) ≡ position n (map f xs)
 unfolding position
-position-root root n f [] = refl
-position-root root n f (x ∷ xs) = rw (same-root root n (f x), position-root root n f xs)
+position_root root n f [] = refl
+position_root root n f (x ∷ xs) = rw (same_root root n (f x), position_root root n f xs)
 
-pub length-range : (a count : ℕ) → length (range a count) ≡ count
+pub length_range : (a count : ℕ) → length (range a count) ≡ count
 unfolding range
-length-range a zero = refl
-length-range a (suc count) = ap suc (length-range (suc a) count)
+length_range a zero = refl
+length_range a (suc count) = ap suc (length_range (suc a) count)
 
-pub range-append : (a m k : ℕ) → range a (m + k) ≡ range a m ++ range (a + m) k
+pub range_append : (a m k : ℕ) → range a (m + k) ≡ range a m ++ range (a + m) k
 unfolding range
-range-append a zero k = ap₂ range (sym (add-zero a)) (zero-add k)
-range-append a (suc m) k =
-    rw suc-add (ap (λ (l : List ℕ). a ∷ l) (range-append (suc a) m k ∙ ap (λ (b : ℕ). range (suc a) m ++ range b k) (suc-add a m ∙ sym (add-suc a m))))
+range_append a zero k = ap₂ range (sym (add-zero a)) (zero-add k)
+range_append a (suc m) k =
+    rw suc-add (ap (λ (l : List ℕ). a ∷ l) (range_append (suc a) m k ∙ ap (λ (b : ℕ). range (suc a) m ++ range b k) (suc-add a m ∙ sym (add-suc a m))))
 
 -- the value at a place of a list of names, and of a range
-pub map-at : {B : Type 0} (f : List ℕ → B) (us : List (List ℕ)) (j : ℕ) (d : B) → j < length us → get_or (map f us) j d ≡ f (get_or us j [])
-map-at f [] j d p = absurd (omega arith)
-map-at f (u ∷ us) zero d p = refl
-map-at f (u ∷ us) (suc j) d p = map-at f us j d (le_of_suc-le-suc p)
+pub map_at : {B : Type 0} (f : List ℕ → B) (us : List (List ℕ)) (j : ℕ) (d : B) → j < length us → get_or (map f us) j d ≡ f (get_or us j [])
+map_at f [] j d p = absurd (omega arith)
+map_at f (u ∷ us) zero d p = refl
+map_at f (u ∷ us) (suc j) d p = map_at f us j d (le_of_suc-le-suc p)
 
-pub range-at : {B : Type 0} (f : ℕ → B) (a count i : ℕ) (d : B) → i < count → get_or (map f (range a count)) i d ≡ f (a + i)
+pub range_at : {B : Type 0} (f : ℕ → B) (a count i : ℕ) (d : B) → i < count → get_or (map f (range a count)) i d ≡ f (a + i)
 unfolding range
-range-at f a zero i d h = absurd (omega arith)
-range-at f a (suc count) zero d h = ap f (omega arith)
-range-at f a (suc count) (suc i) d h = range-at f (suc a) count i d (omega arith) ∙ ap f (omega arith)
+range_at f a zero i d h = absurd (omega arith)
+range_at f a (suc count) zero d h = ap f (omega arith)
+range_at f a (suc count) (suc i) d h = range_at f (suc a) count i d (omega arith) ∙ ap f (omega arith)
 
 -- a name that no value is
-pub position-no : (n : List ℕ) (f : ℕ → List ℕ) (a count : ℕ) → ((k : ℕ) → a ≤ k → k < a + count → n ≡ f k → ⊥) → position n (map f (range a count)) ≡ Nothing
+pub position_no : (n : List ℕ) (f : ℕ → List ℕ) (a count : ℕ) → ((k : ℕ) → a ≤ k → k < a + count → n ≡ f k → ⊥) → position n (map f (range a count)) ≡ Nothing
 unfolding position range
-position-no n f a zero h = refl
-position-no n f a (suc count) h =
-    rw (same-false n (f a) (h a (omega arith) (omega arith)), position-no n f (suc a) count (λ k p q. h k (omega arith) (omega arith)))
+position_no n f a zero h = refl
+position_no n f a (suc count) h =
+    rw (same_false n (f a) (h a (omega arith) (omega arith)), position_no n f (suc a) count (λ k p q. h k (omega arith) (omega arith)))
 
 -- a name that one value is
 module _ (f : ℕ → List ℕ) (n : ℕ) where
-  value-step : (a count : ℕ) (t : Bool) → eqb n a ≡ t → ((n ≡ a → ⊥) → f n ≡ f a → ⊥) → a ≤ n
+  value_step : (a count : ℕ) (t : Bool) → eqb n a ≡ t → ((n ≡ a → ⊥) → f n ≡ f a → ⊥) → a ≤ n
       → (suc a ≤ n → position (f n) (map f (range (suc a) count)) ≡ At (n - suc a))
       → position (f n) (map f (range a (suc count))) ≡ At (n - a)
   unfolding position range
-  value-step a count true e ne p ih =
+  value_step a count true e ne p ih =
       let h : n ≡ a = eqb-true n a e in
       let z : n - a ≡ 0 = omega arith in
-      rw (z, h, same-refl (f a))
-  value-step a count false e ne p ih =
+      rw (z, h, same_refl (f a))
+  value_step a count false e ne p ih =
       let h : n ≡ a → ⊥ = eqb-false n a e in
       let z : n - a ≡ suc (n - suc a) = omega arith in
-      rw (z, same-false (f n) (f a) (ne h), ih (omega arith))
+      rw (z, same_false (f n) (f a) (ne h), ih (omega arith))
 
-  pub position-value : (a count : ℕ) → ((k : ℕ) → a ≤ k → k < a + count → f n ≡ f k → n ≡ k) → a ≤ n → n < a + count → position (f n) (map f (range a count)) ≡ At (n - a)
-  position-value a zero inj p q = absurd (omega arith)
-  position-value a (suc count) inj p q =
-      value-step a count (eqb n a) refl (λ h e. h (inj a (omega arith) (omega arith) e)) p
-      (λ r. position-value (suc a) count (λ k u v. inj k (omega arith) (omega arith)) r (omega arith))
+  pub position_value : (a count : ℕ) → ((k : ℕ) → a ≤ k → k < a + count → f n ≡ f k → n ≡ k) → a ≤ n → n < a + count → position (f n) (map f (range a count)) ≡ At (n - a)
+  position_value a zero inj p q = absurd (omega arith)
+  position_value a (suc count) inj p q =
+      value_step a count (eqb n a) refl (λ h e. h (inj a (omega arith) (omega arith) e)) p
+      (λ r. position_value (suc a) count (λ k u v. inj k (omega arith) (omega arith)) r (omega arith))
 
 -- a search by one test after the other: the first k names are passed
 module _ (n : List ℕ) (xs : List (List ℕ)) where
@@ -160,18 +160,18 @@ module _ (n : List ℕ) (xs : List (List ℕ)) where
   Passed k = position n xs ≡ further k (position n (drop k xs))
 
   pub passed_none : Passed 0
-  passed_none = sym (further-zero (position n xs))
+  passed_none = sym (further_zero (position n xs))
 
   module _ (k : ℕ) (h : k < length xs) (p : Passed k) where
-    pub passed-more : same n (get_or xs k []) ≡ false → Passed (suc k)
-    passed-more t =
+    pub passed_more : same n (get_or xs k []) ≡ false → Passed (suc k)
+    passed_more t =
         p ∙ ap (further k) (ap (position n) (drop-cons xs k [] h) ∙ position_past n (get_or xs k []) (drop (suc k) xs) t)
-        ∙ further-later k (position n (drop (suc k) xs))
+        ∙ further_later k (position n (drop (suc k) xs))
 
     pub passed_here : same n (get_or xs k []) ≡ true → position n xs ≡ At k
     passed_here t =
         p ∙ ap (further k) (ap (position n) (drop-cons xs k [] h) ∙ position_here n (get_or xs k []) (drop (suc k) xs) t) ∙ ap At (add-zero k)
 
-  pub passed-all : Passed (length xs) → position n xs ≡ Nothing
+  pub passed_all : Passed (length xs) → position n xs ≡ Nothing
   unfolding position
-  passed-all p = p ∙ ap (λ (l : List (List ℕ)). further (length xs) (position n l)) (drop-length xs)
+  passed_all p = p ∙ ap (λ (l : List (List ℕ)). further (length xs) (position n l)) (drop-length xs)

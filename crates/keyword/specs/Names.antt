@@ -19,12 +19,12 @@ numeral n =
     ((48 + n / 100) ∷ (48 + n / 10 % 10) ∷ (48 + n % 10) ∷ []))
 
 -- the highest n of a name that is numbered by column (7.3.1: a table has at most 999 columns)
-abbrev pub indexLimit : ℕ
-indexLimit = 999
+abbrev pub index_limit : ℕ
+index_limit = 999
 
 -- the columns that this reader takes (section 8): a name has a slot for n up to this
-abbrev pub columnSlots : ℕ
-columnSlots = 64
+abbrev pub column_slots : ℕ
+column_slots = 64
 
 -- a root with each n from 1 to `count` after it
 unfoldable pub indexed : ℕ → List ℕ → List (List ℕ)
@@ -37,30 +37,30 @@ single =
 
 -- the roots of the numbered names that must not stand twice (section 5), and those whose second record is another
 -- refusal
-unfoldable pub onceRoots : List (List ℕ)
-onceRoots = bytes "TFORM" ∷ bytes "TTYPE" ∷ []
+unfoldable pub once_roots : List (List ℕ)
+once_roots = bytes "TFORM" ∷ bytes "TTYPE" ∷ []
 
-unfoldable pub otherRoots : List (List ℕ)
-otherRoots = []
+unfoldable pub other_roots : List (List ℕ)
+other_roots = []
 
 abbrev pub roots : List (List ℕ)
-roots = onceRoots ++ otherRoots
+roots = once_roots ++ other_roots
 
 -- the single names, and these roots with each n up to `count`
-abbrev pub namesUpTo : ℕ → List (List ℕ) → List (List ℕ)
-namesUpTo count rs = single ++ flat_map (indexed count) rs
+abbrev pub names_up_to : ℕ → List (List ℕ) → List (List ℕ)
+names_up_to count rs = single ++ flat_map (indexed count) rs
 
 -- the used names
-unfoldable pub usedNames : List (List ℕ)
-usedNames = namesUpTo indexLimit roots
+unfoldable pub used_names : List (List ℕ)
+used_names = names_up_to index_limit roots
 
 -- the names that must not stand twice
-unfoldable pub onceNames : List (List ℕ)
-onceNames = namesUpTo indexLimit onceRoots
+unfoldable pub once_names : List (List ℕ)
+once_names = names_up_to index_limit once_roots
 
 -- the names that have a slot, which is the name's place in this list: new roots go to the end
-unfoldable pub slotNames : List (List ℕ)
-slotNames = namesUpTo columnSlots roots
+unfoldable pub slot_names : List (List ℕ)
+slot_names = names_up_to column_slots roots
 
 -- one place further on
 abbrev pub later : Found → Found

@@ -4,7 +4,7 @@
 ghost use Rattle.std.specs.Prelude.{◌≡◌, cond, ◌+◌, ◌*◌, ◌<◌, ltb, length};
 ghost use mathlib.Core.List.{map, flatten};
 ghost use Rattle.ascii.specs.declared.Found.TheVariants.{At, Nothing};
-ghost use Rattle.keyword.specs.Names.{indexLimit, columnSlots, onceRoots, roots, slotNames, onceNames, position, further, single, numeral, range};
+ghost use Rattle.keyword.specs.Names.{index_limit, column_slots, once_roots, roots, slot_names, once_names, position, further, single, numeral, range};
 
 use ascii::Found;
 
@@ -60,7 +60,7 @@ pub const ONCE: usize = SINGLE + ONCE_ROOTS * INDEX_LIMIT;
 
 // The digits of 1 to INDEX_LIMIT, without leading zeros, as a place counted from 0.
 fn keyword_index(s: &[u8]) -> Found
-    ensures { result ≡ position s.now (map numeral (range 1 indexLimit)) }
+    ensures { result ≡ position s.now (map numeral (range 1 index_limit)) }
 {
     let n = s.len();
     if n == 0 || INDEX_DIGITS < n {
@@ -136,8 +136,8 @@ fn root_of(words: &[u8], root: &[u8]) -> Found
 
 // The slot of root r with n = k + 1.
 fn indexed_slot(r: usize, k: usize) -> Found
-    requires { (r < length roots) × (k < indexLimit) }
-    ensures { result ≡ further (length single + r * columnSlots) (cond (ltb k columnSlots) (At k) Nothing) }
+    requires { (r < length roots) × (k < index_limit) }
+    ensures { result ≡ further (length single + r * column_slots) (cond (ltb k column_slots) (At k) Nothing) }
 {
     if k < COLUMN_SLOTS {
         return Found::At(SINGLE + r * COLUMN_SLOTS + k);
@@ -147,8 +147,8 @@ fn indexed_slot(r: usize, k: usize) -> Found
 
 // Its place among the names that must not stand twice.
 fn indexed_once(r: usize, k: usize) -> Found
-    requires { k < indexLimit }
-    ensures { result ≡ cond (ltb r (length onceRoots)) (At (length single + r * indexLimit + k)) Nothing }
+    requires { k < index_limit }
+    ensures { result ≡ cond (ltb r (length once_roots)) (At (length single + r * index_limit + k)) Nothing }
 {
     if r < ONCE_ROOTS {
         return Found::At(SINGLE + r * INDEX_LIMIT + k);
@@ -170,8 +170,8 @@ fn single_places(name: &[u8]) -> Places
 
 // The places of a name. No single name has a root in front, so the first five bytes tell where to look.
 pub fn locate(name: &[u8]) -> Places
-    ensures slot { result.slot ≡ position name.now slotNames }
-    ensures once { result.once ≡ position name.now onceNames }
+    ensures slot { result.slot ≡ position name.now slot_names }
+    ensures once { result.once ≡ position name.now once_names }
 {
     if name.len() < 5 {
         return single_places(name);

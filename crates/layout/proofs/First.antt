@@ -16,109 +16,109 @@ use Rattle.ascii.specs.declared.Found.{Found}
 use Rattle.ascii.specs.declared.Found.TheVariants.{At, Nothing}
 use Rattle.ascii.proofs.Cases.{either}
 use Rattle.layout.specs.declared.Column.{Column}
-use Rattle.layout.specs.Layout.{noColumn}
-use Rattle.layout.specs.Names.{firstColumn}
+use Rattle.layout.specs.Layout.{no_column}
+use Rattle.layout.specs.Names.{first_column}
 
 pub not_both : (f : Found) (c : ℕ) → f ≡ Nothing → f ≡ At c → ⊥
 not_both f c n a = let z : ◌≡◌ {A = ℕ} 0 1 = cc in omega arith
 
-pub nothing-else : (f : Found) → ((c : ℕ) → f ≡ At c → ⊥) → f ≡ Nothing
-nothing-else Nothing n = refl
-nothing-else (At c) n = absurd (n c refl)
+pub nothing_else : (f : Found) → ((c : ℕ) → f ≡ At c → ⊥) → f ≡ Nothing
+nothing_else Nothing n = refl
+nothing_else (At c) n = absurd (n c refl)
 
 -- the search from column i on, as a loop goes
 module _ (test : Column → Bool) (cs : List Column) (i : ℕ) where
-  pub first-here : i < length cs → test (get_or cs i noColumn) ≡ true → At i ≡ firstColumn test i (drop i cs)
-  unfolding firstColumn
-  first-here p e = rw (drop-cons cs i noColumn p, e)
+  pub first_here : i < length cs → test (get_or cs i no_column) ≡ true → At i ≡ first_column test i (drop i cs)
+  unfolding first_column
+  first_here p e = rw (drop-cons cs i no_column p, e)
 
-  pub first-later : i < length cs → test (get_or cs i noColumn) ≡ false
-      → firstColumn test i (drop i cs) ≡ firstColumn test (i + 1) (drop (i + 1) cs)
-  unfolding firstColumn
-  first-later p e = rw (add-one i, drop-cons cs i noColumn p, e)
+  pub first_later : i < length cs → test (get_or cs i no_column) ≡ false
+      → first_column test i (drop i cs) ≡ first_column test (i + 1) (drop (i + 1) cs)
+  unfolding first_column
+  first_later p e = rw (add-one i, drop-cons cs i no_column p, e)
 
-  pub first-over : length cs ≤ i → Nothing ≡ firstColumn test i (drop i cs)
-  unfolding firstColumn
-  first-over p = rw (drop_of_length-le cs {i = i} p)
+  pub first_over : length cs ≤ i → Nothing ≡ first_column test i (drop i cs)
+  unfolding first_column
+  first_over p = rw (drop_of_length-le cs {i = i} p)
 
 -- a search for the first column that passes a test, which no column that is not there does
-module _ (test : Column → Bool) (none : test noColumn ≡ false) where
+module _ (test : Column → Bool) (none : test no_column ≡ false) where
   abbrev passes : List Column → ℕ → Bool
-  passes cs d = test (get_or cs d noColumn)
+  passes cs d = test (get_or cs d no_column)
 
   -- it ends at a column that passes and has none in front of it that does, or no column does
   FirstAt : ℕ → List Column → Type 0
   FirstAt i cs =
-      (d : ℕ) × (firstColumn test i cs ≡ At (i + d)) × (passes cs d ≡ true) × ((e : ℕ) → e < d → passes cs e ≡ false)
+      (d : ℕ) × (first_column test i cs ≡ At (i + d)) × (passes cs d ≡ true) × ((e : ℕ) → e < d → passes cs e ≡ false)
 
   NoneAt : ℕ → List Column → Type 0
-  NoneAt i cs = (firstColumn test i cs ≡ Nothing) × ((e : ℕ) → passes cs e ≡ false)
+  NoneAt i cs = (first_column test i cs ≡ Nothing) × ((e : ℕ) → passes cs e ≡ false)
 
-  in-front : (x : Column) (xs : List Column) (d : ℕ) → test x ≡ false → ((e : ℕ) → e < d → passes xs e ≡ false)
+  in_front : (x : Column) (xs : List Column) (d : ℕ) → test x ≡ false → ((e : ℕ) → e < d → passes xs e ≡ false)
       → (e : ℕ) → e < suc d → passes (x ∷ xs) e ≡ false
-  in-front x xs d t h zero p = t
-  in-front x xs d t h (suc e) p = h e (omega (arith, p))
+  in_front x xs d t h zero p = t
+  in_front x xs d t h (suc e) p = h e (omega (arith, p))
 
   nowhere : (x : Column) (xs : List Column) → test x ≡ false → ((e : ℕ) → passes xs e ≡ false)
       → (e : ℕ) → passes (x ∷ xs) e ≡ false
   nowhere x xs t h zero = t
   nowhere x xs t h (suc e) = h e
 
-  search-ends : (i : ℕ) (cs : List Column) → FirstAt i cs ⊎ NoneAt i cs
-  unfolding firstColumn FirstAt NoneAt
-  search-ends i [] = inr (refl, λ e. none)
-  search-ends i (x ∷ xs) =
+  search_ends : (i : ℕ) (cs : List Column) → FirstAt i cs ⊎ NoneAt i cs
+  unfolding first_column FirstAt NoneAt
+  search_ends i [] = inr (refl, λ e. none)
+  search_ends i (x ∷ xs) =
       either (test x)
       (λ t. inl (0, rw (t, add-zero i) refl, t, λ e p. absurd (omega (arith, p))))
       (λ t. ⊎_elim
       (λ q. let k : suc i + q.0 ≡ i + suc q.0 = omega arith in
-      inl (suc q.0, rw t (q.1 ∙ ap At k), q.2, in-front x xs q.0 t q.3))
+      inl (suc q.0, rw t (q.1 ∙ ap At k), q.2, in_front x xs q.0 t q.3))
       (λ q. inr (rw t q.0, nowhere x xs t q.1))
-      (search-ends (suc i) xs))
+      (search_ends (suc i) xs))
 
   -- the same from the first column on
   from_front : (cs : List Column) → FirstAt 0 cs
-      → (d : ℕ) × (firstColumn test 0 cs ≡ At d) × (passes cs d ≡ true) × ((e : ℕ) → e < d → passes cs e ≡ false)
+      → (d : ℕ) × (first_column test 0 cs ≡ At d) × (passes cs d ≡ true) × ((e : ℕ) → e < d → passes cs e ≡ false)
   unfolding FirstAt
   from_front cs q = let z : 0 + q.0 ≡ q.0 = omega arith in (q.0, q.1 ∙ ap At z, q.2, q.3)
 
-  pub first-passes : (cs : List Column) (c : ℕ) → firstColumn test 0 cs ≡ At c
+  pub first_passes : (cs : List Column) (c : ℕ) → first_column test 0 cs ≡ At c
       → (passes cs c ≡ true) × ((d : ℕ) → d < c → passes cs d ≡ false)
   unfolding NoneAt
-  first-passes cs c e =
+  first_passes cs c e =
       ⊎_elim
       (λ f. let q = from_front cs f in let g : At q.0 ≡ At c = sym q.1 ∙ e in let k : q.0 ≡ c = cc in
       (subst (λ d. passes cs d ≡ true) k q.2, λ d p. q.3 d (omega (arith, k, p))))
       (λ q. absurd (not_both _ c q.0 e))
-      (search-ends 0 cs)
+      (search_ends 0 cs)
 
-  pub first-none : (cs : List Column) → firstColumn test 0 cs ≡ Nothing → (c : ℕ) → passes cs c ≡ false
+  pub first_none : (cs : List Column) → first_column test 0 cs ≡ Nothing → (c : ℕ) → passes cs c ≡ false
   unfolding NoneAt
-  first-none cs e =
+  first_none cs e =
       ⊎_elim
       (λ f. let q = from_front cs f in absurd (not_both _ q.0 e q.1))
       (λ q. q.1)
-      (search-ends 0 cs)
+      (search_ends 0 cs)
 
-  pub first-upto : (cs : List Column) (c : ℕ) → passes cs c ≡ true
-      → (d : ℕ) × (firstColumn test 0 cs ≡ At d) × (d ≤ c) × (passes cs d ≡ true)
+  pub first_upto : (cs : List Column) (c : ℕ) → passes cs c ≡ true
+      → (d : ℕ) × (first_column test 0 cs ≡ At d) × (d ≤ c) × (passes cs d ≡ true)
   unfolding NoneAt
-  first-upto cs c e =
+  first_upto cs c e =
       ⊎_elim
       (λ f. let q = from_front cs f in
       (q.0, q.1, either (ltb c q.0) (λ t. absurd (true≢false (sym e ∙ q.3 c (ltb-true c q.0 t)))) (ltb-false c q.0), q.2))
       (λ q. absurd (true≢false (sym e ∙ q.1 c)))
-      (search-ends 0 cs)
+      (search_ends 0 cs)
 
   -- a column that is found is one of those searched
-  pub first-inside : (cs : List Column) (c : ℕ) → firstColumn test 0 cs ≡ At c → c < length cs
-  first-inside cs c e =
+  pub first_inside : (cs : List Column) (c : ℕ) → first_column test 0 cs ≡ At c → c < length cs
+  first_inside cs c e =
       either (ltb c (length cs))
       (ltb-true c (length cs))
-      (λ t. let past = get_or-eq_default cs noColumn {n = c} (ltb-false c (length cs) t) in
-      absurd (true≢false (sym (first-passes cs c e).0 ∙ ap test past ∙ none)))
+      (λ t. let past = get_or-eq_default cs no_column {n = c} (ltb-false c (length cs) t) in
+      absurd (true≢false (sym (first_passes cs c e).0 ∙ ap test past ∙ none)))
 
 -- two tests that say the same of every column find the same
-pub first-same : (f g : Column → Bool) → ((x : Column) → f x ≡ g x)
-    → (i : ℕ) (cs : List Column) → firstColumn f i cs ≡ firstColumn g i cs
-first-same f g h i cs = λ k. firstColumn (λ (x : Column). h x k) i cs
+pub first_same : (f g : Column → Bool) → ((x : Column) → f x ≡ g x)
+    → (i : ℕ) (cs : List Column) → first_column f i cs ≡ first_column g i cs
+first_same f g h i cs = λ k. first_column (λ (x : Column). h x k) i cs

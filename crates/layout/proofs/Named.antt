@@ -14,47 +14,47 @@ use Rattle.ascii.specs.declared.Found.TheVariants.{At}
 use Rattle.layout.specs.declared.Name.{Name}
 use Rattle.layout.specs.declared.Name.TheVariants.{Missing, Stretch}
 use Rattle.layout.specs.declared.BinTable.{BinTable}
-use Rattle.layout.specs.Layout.{noColumn, columnsOf}
-use Rattle.layout.specs.Names.{inHeader, stretchOf, partOf, columnName, hasName, findName}
-use Rattle.layout.proofs.First.{first-inside}
+use Rattle.layout.specs.Layout.{no_column, columns_of}
+use Rattle.layout.specs.Names.{in_header, stretch_of, part_of, column_name, has_name, find_name}
+use Rattle.layout.proofs.First.{first_inside}
 
 module _ (h : List ℕ) where
-  pub part-missing : [] ≡ partOf h Missing
-  unfolding partOf
-  part-missing = refl
+  pub part_missing : [] ≡ part_of h Missing
+  unfolding part_of
+  part_missing = refl
 
-  pub part-short : (a n : ℕ) → length h < a + n → [] ≡ partOf h (Stretch a n)
-  unfolding partOf
-  part-short a n l = rw (lt-leb (a + n) (length h) l)
+  pub part_short : (a n : ℕ) → length h < a + n → [] ≡ part_of h (Stretch a n)
+  unfolding part_of
+  part_short a n l = rw (lt-leb (a + n) (length h) l)
 
-  pub part-whole : (a n : ℕ) → a + n ≤ length h → take (a + n - a) (drop a h) ≡ partOf h (Stretch a n)
-  unfolding partOf
-  part-whole a n l = let e : a + n - a ≡ n = omega arith in rw (e, le-leb (a + n) (length h) l)
+  pub part_whole : (a n : ℕ) → a + n ≤ length h → take (a + n - a) (drop a h) ≡ part_of h (Stretch a n)
+  unfolding part_of
+  part_whole a n l = let e : a + n - a ≡ n = omega arith in rw (e, le-leb (a + n) (length h) l)
 
   -- a name that is reached is its part
-  pub part-in-header : (s : Name) → inHeader h s ≡ true → partOf h s ≡ stretchOf h s
-  unfolding partOf
-  part-in-header s e = rw e
+  pub part_in_header : (s : Name) → in_header h s ≡ true → part_of h s ≡ stretch_of h s
+  unfolding part_of
+  part_in_header s e = rw e
 
   module _ (l : BinTable) (c : ℕ) where
-    pub name-over : l.tfields ≤ c → [] ≡ columnName h l c
-    unfolding columnName
-    name-over p = rw (le-ltb c l.tfields p)
+    pub name_over : l.tfields ≤ c → [] ≡ column_name h l c
+    unfolding column_name
+    name_over p = rw (le-ltb c l.tfields p)
 
-    pub name-past : length l.columns ≤ c → [] ≡ columnName h l c
-    unfolding columnName partOf
-    name-past p = rw (get_or-eq_default l.columns noColumn {n = c} p) (either (ltb c l.tfields) (λ e. rw e) (λ e. rw e))
+    pub name_past : length l.columns ≤ c → [] ≡ column_name h l c
+    unfolding column_name part_of
+    name_past p = rw (get_or-eq_default l.columns no_column {n = c} p) (either (ltb c l.tfields) (λ e. rw e) (λ e. rw e))
 
-    pub name-at : c < l.tfields → partOf h (get_or l.columns c noColumn).name ≡ columnName h l c
-    unfolding columnName
-    name-at p = rw (lt-ltb c l.tfields p)
+    pub name_at : c < l.tfields → part_of h (get_or l.columns c no_column).name ≡ column_name h l c
+    unfolding column_name
+    name_at p = rw (lt-ltb c l.tfields p)
 
-pub column-at : (l : BinTable) (i : ℕ) → i < l.tfields → get_or (columnsOf l) i noColumn ≡ get_or l.columns i noColumn
-column-at l i p = get_or-take l.tfields l.columns i noColumn p
+pub column_at : (l : BinTable) (i : ℕ) → i < l.tfields → get_or (columns_of l) i no_column ≡ get_or l.columns i no_column
+column_at l i p = get_or-take l.tfields l.columns i no_column p
 
 -- a column that is found is one of the layout's
-pub found-inside : (h : List ℕ) (l : BinTable) (sought : List ℕ) (c : ℕ) → findName h l sought ≡ At c → (c < l.tfields) × (c < length l.columns)
-unfolding findName
-found-inside h l sought c e =
-    let p = first-inside (hasName h sought) refl (columnsOf l) c e in let n = length-take l.tfields l.columns in
+pub found_inside : (h : List ℕ) (l : BinTable) (sought : List ℕ) (c : ℕ) → find_name h l sought ≡ At c → (c < l.tfields) × (c < length l.columns)
+unfolding find_name
+found_inside h l sought c e =
+    let p = first_inside (has_name h sought) refl (columns_of l) c e in let n = length-take l.tfields l.columns in
     (omega (arith, p, n), omega (arith, p, n))

@@ -11,25 +11,25 @@ use lib.Pointwise.{pointwise}
 use lib.ListN.{length, get_or, drop, drop_of_length-le, get_or-eq_default}
 use lib.Seq.{drop-cons, drop-drop, get_or-drop}
 use borrow.Author.Tests.{ne_eqb, eqb-true, eqb-false, ltb-true, ltb-false}
-use Rattle.ascii.proofs.Cases.{either, by-test, both}
+use Rattle.ascii.proofs.Cases.{either, by_test, both}
 use Rattle.layout.specs.Names.{undoubled, alike}
 use Rattle.layout.specs.EitherCase.{doubled}
 
 -- how many bytes count as the one at i
-abbrev pub byteLen : List ℕ → ℕ → ℕ
-byteLen p i = cond (eqb (get_or p i 0) 39 && eqb (get_or p (i + 1) 0) 39) 2 1
+abbrev pub byte_len : List ℕ → ℕ → ℕ
+byte_len p i = cond (eqb (get_or p i 0) 39 && eqb (get_or p (i + 1) 0) 39) 2 1
 
-pub len-other : (p : List ℕ) (i : ℕ) → (get_or p i 0 ≡ 39 → ⊥) → 1 ≡ byteLen p i
-len-other p i n = rw (ne_eqb (get_or p i 0) 39 n)
+pub len_other : (p : List ℕ) (i : ℕ) → (get_or p i 0 ≡ 39 → ⊥) → 1 ≡ byte_len p i
+len_other p i n = rw (ne_eqb (get_or p i 0) 39 n)
 
-pub len-last : (p : List ℕ) (i : ℕ) → i + 1 ≡ length p → 1 ≡ byteLen p i
-len-last p i e = rw (get_or-eq_default {A = ℕ} p 0 {n = i + 1} (omega (arith, e)), and-false (eqb (get_or p i 0) 39))
+pub len_last : (p : List ℕ) (i : ℕ) → i + 1 ≡ length p → 1 ≡ byte_len p i
+len_last p i e = rw (get_or-eq_default {A = ℕ} p 0 {n = i + 1} (omega (arith, e)), and-false (eqb (get_or p i 0) 39))
 
-pub len-lone : (p : List ℕ) (i : ℕ) → (get_or p (i + 1) 0 ≡ 39 → ⊥) → 1 ≡ byteLen p i
-len-lone p i n = rw (ne_eqb (get_or p (i + 1) 0) 39 n, and-false (eqb (get_or p i 0) 39))
+pub len_lone : (p : List ℕ) (i : ℕ) → (get_or p (i + 1) 0 ≡ 39 → ⊥) → 1 ≡ byte_len p i
+len_lone p i n = rw (ne_eqb (get_or p (i + 1) 0) 39 n, and-false (eqb (get_or p i 0) 39))
 
-pub len-two : (p : List ℕ) (i : ℕ) → get_or p i 0 ≡ 39 → get_or p (i + 1) 0 ≡ 39 → 2 ≡ byteLen p i
-len-two p i e f = rw (e, f)
+pub len_two : (p : List ℕ) (i : ℕ) → get_or p i 0 ≡ 39 → get_or p (i + 1) 0 ≡ 39 → 2 ≡ byte_len p i
+len_two p i e f = rw (e, f)
 
 -- the byte at i is the next one, and it ends within the name
 first_byte : (b : ℕ) (bs : List ℕ) → undoubled (b ∷ bs) ≡ b ∷ undoubled (drop (cond (eqb b 39 && eqb (get_or bs 0 0) 39) 2 1) (b ∷ bs))
@@ -37,59 +37,59 @@ unfolding undoubled
 first_byte b [] = rw (and-false (eqb b 39))
 first_byte b (c ∷ cs) = either (eqb b 39 && eqb c 39) (λ e. rw e) (λ e. rw e)
 
-next-byte : (i : ℕ) (p : List ℕ) → get_or (drop (suc i) p) 0 0 ≡ get_or p (i + 1) 0
-next-byte i p = get_or-drop (suc i) p 0 0 ∙ ap (λ (n : ℕ). get_or p n 0) (omega arith)
+next_byte : (i : ℕ) (p : List ℕ) → get_or (drop (suc i) p) 0 0 ≡ get_or p (i + 1) 0
+next_byte i p = get_or-drop (suc i) p 0 0 ∙ ap (λ (n : ℕ). get_or p n 0) (omega arith)
 
-pub undoubled-next : (p : List ℕ) (i : ℕ) → i < length p → undoubled (drop i p) ≡ get_or p i 0 ∷ undoubled (drop (i + byteLen p i) p)
-undoubled-next p i h =
+pub undoubled_next : (p : List ℕ) (i : ℕ) → i < length p → undoubled (drop i p) ≡ get_or p i 0 ∷ undoubled (drop (i + byte_len p i) p)
+undoubled_next p i h =
     let b = get_or p i 0 in
     ap undoubled (drop-cons p i 0 h) ∙ first_byte b (drop (suc i) p)
     ∙ ap (λ (l : List ℕ). b ∷ undoubled l)
-    (ap (λ (x : ℕ). drop (cond (eqb b 39 && eqb x 39) 2 1) (b ∷ drop (suc i) p)) (next-byte i p)
-    ∙ ap (drop (byteLen p i)) (sym (drop-cons p i 0 h)) ∙ drop-drop (byteLen p i) i p)
+    (ap (λ (x : ℕ). drop (cond (eqb b 39 && eqb x 39) 2 1) (b ∷ drop (suc i) p)) (next_byte i p)
+    ∙ ap (drop (byte_len p i)) (sym (drop-cons p i 0 h)) ∙ drop-drop (byte_len p i) i p)
 
 -- a text that a header writes with each quote as two is that text
-undoubled-other : (b : ℕ) (t : List ℕ) → eqb b 39 ≡ false → undoubled (b ∷ t) ≡ b ∷ undoubled t
+undoubled_other : (b : ℕ) (t : List ℕ) → eqb b 39 ≡ false → undoubled (b ∷ t) ≡ b ∷ undoubled t
 unfolding undoubled
-undoubled-other b [] e = refl
-undoubled-other b (c ∷ cs) e = rw e refl
+undoubled_other b [] e = refl
+undoubled_other b (c ∷ cs) e = rw e refl
 
-pub undoubled-doubled : (s : List ℕ) → undoubled (doubled s) ≡ s
+pub undoubled_doubled : (s : List ℕ) → undoubled (doubled s) ≡ s
 unfolding undoubled doubled
-undoubled-doubled [] = refl
-undoubled-doubled (b ∷ bs) =
+undoubled_doubled [] = refl
+undoubled_doubled (b ∷ bs) =
     either (eqb b 39)
-    (λ e. rw (e, undoubled-doubled bs, eqb-true b 39 e) refl)
-    (λ e. rw e (undoubled-other b (doubled bs) e ∙ ap (λ (t : List ℕ). b ∷ t) (undoubled-doubled bs)))
+    (λ e. rw (e, undoubled_doubled bs, eqb-true b 39 e) refl)
+    (λ e. rw e (undoubled_other b (doubled bs) e ∙ ap (λ (t : List ℕ). b ∷ t) (undoubled_doubled bs)))
 
-pub undoubled-end : (p : List ℕ) (i : ℕ) → length p ≤ i → undoubled (drop i p) ≡ []
+pub undoubled_end : (p : List ℕ) (i : ℕ) → length p ≤ i → undoubled (drop i p) ≡ []
 unfolding undoubled
-undoubled-end p i h = rw (drop_of_length-le p {i = i} h)
+undoubled_end p i h = rw (drop_of_length-le p {i = i} h)
 
-pub len-inside : (p : List ℕ) (i : ℕ) → i < length p → i + byteLen p i ≤ length p
-len-inside p i h =
-    by-test (λ (n : ℕ). i + n ≤ length p) (eqb (get_or p i 0) 39 && eqb (get_or p (i + 1) 0) 39)
+pub len_inside : (p : List ℕ) (i : ℕ) → i < length p → i + byte_len p i ≤ length p
+len_inside p i h =
+    by_test (λ (n : ℕ). i + n ≤ length p) (eqb (get_or p i 0) 39 && eqb (get_or p (i + 1) 0) 39)
     (λ e. either (ltb (i + 1) (length p)) (λ t. omega (arith, ltb-true (i + 1) (length p) t))
     (λ t. absurd (let q = eqb-true (get_or p (i + 1) 0) 39 (both (eqb (get_or p i 0) 39) (eqb (get_or p (i + 1) 0) 39) e).1 in
     omega (arith, q, get_or-eq_default {A = ℕ} p 0 {n = i + 1} (ltb-false (i + 1) (length p) t)))))
     (λ e. omega arith)
 
-pub len-least : (p : List ℕ) (i : ℕ) → 1 ≤ byteLen p i
-len-least p i = by-test (λ (n : ℕ). 1 ≤ n) (eqb (get_or p i 0) 39 && eqb (get_or p (i + 1) 0) 39) (λ e. omega arith) (λ e. omega arith)
+pub len_least : (p : List ℕ) (i : ℕ) → 1 ≤ byte_len p i
+len_least p i = by_test (λ (n : ℕ). 1 ≤ n) (eqb (get_or p i 0) 39 && eqb (get_or p (i + 1) 0) 39) (λ e. omega arith) (λ e. omega arith)
 
 -- one byte of the name sought
 module _ (x : ℕ) (xs s : List ℕ) (j : ℕ) where
-  pub sought-over : length s ≤ j → pointwise alike (x ∷ xs) (drop j s) ≡ false
-  sought-over h = rw (drop_of_length-le s {i = j} h)
+  pub sought_over : length s ≤ j → pointwise alike (x ∷ xs) (drop j s) ≡ false
+  sought_over h = rw (drop_of_length-le s {i = j} h)
 
-  pub sought-other : j < length s → alike x (get_or s j 0) ≡ false → pointwise alike (x ∷ xs) (drop j s) ≡ false
-  sought-other h n = rw (drop-cons s j 0 h, n)
+  pub sought_other : j < length s → alike x (get_or s j 0) ≡ false → pointwise alike (x ∷ xs) (drop j s) ≡ false
+  sought_other h n = rw (drop-cons s j 0 h, n)
 
-  pub sought-next : j < length s → alike x (get_or s j 0) ≡ true → pointwise alike (x ∷ xs) (drop j s) ≡ pointwise alike xs (drop (j + 1) s)
-  sought-next h e = rw (add-one j, drop-cons s j 0 h, e)
+  pub sought_next : j < length s → alike x (get_or s j 0) ≡ true → pointwise alike (x ∷ xs) (drop j s) ≡ pointwise alike xs (drop (j + 1) s)
+  sought_next h e = rw (add-one j, drop-cons s j 0 h, e)
 
-pub sought-end : (s : List ℕ) (j : ℕ) → j ≤ length s → pointwise alike [] (drop j s) ≡ eqb j (length s)
-sought-end s j h =
+pub sought_end : (s : List ℕ) (j : ℕ) → j ≤ length s → pointwise alike [] (drop j s) ≡ eqb j (length s)
+sought_end s j h =
     either (eqb j (length s))
     (λ e. rw (e, drop_of_length-le s {i = j} (omega (arith, eqb-true j (length s) e))))
     (λ e. rw (e, drop-cons s j 0 (lt_of_le_of_ne h (eqb-false j (length s) e))))

@@ -5,8 +5,8 @@ use Rattle.ascii.specs.Text.{same}
 use Rattle.ascii.specs.declared.Found.{Found}
 use Rattle.layout.specs.declared.Column.{Column}
 use Rattle.layout.specs.declared.BinTable.{BinTable}
-use Rattle.layout.specs.Layout.{noColumn, columnsOf}
-use Rattle.layout.specs.Names.{inHeader, stretchOf, undoubled, hasName, firstColumn}
+use Rattle.layout.specs.Layout.{no_column, columns_of}
+use Rattle.layout.specs.Names.{in_header, stretch_of, undoubled, has_name, first_column}
 
 -- A (65) to Z (90), and a (97) to z (122)
 abbrev pub letter : ℕ → Bool
@@ -19,12 +19,12 @@ doubled (b ∷ bs) = cond (eqb b 39) (39 ∷ 39 ∷ doubled bs) (b ∷ doubled b
 
 -- whether column c of a layout has the name sought; where there is no such column it does not
 abbrev pub named : List ℕ → BinTable → List ℕ → ℕ → Bool
-named h l sought c = hasName h sought (get_or (columnsOf l) c noColumn)
+named h l sought c = has_name h sought (get_or (columns_of l) c no_column)
 
 -- whether a column has the name sought byte for byte
-abbrev pub hasBytes : List ℕ → List ℕ → Column → Bool
-hasBytes h sought c = inHeader h c.name && same (undoubled (stretchOf h c.name)) sought
+abbrev pub has_bytes : List ℕ → List ℕ → Column → Bool
+has_bytes h sought c = in_header h c.name && same (undoubled (stretch_of h c.name)) sought
 
 -- the first column that has the name byte for byte
-unfoldable pub findBytes : List ℕ → BinTable → List ℕ → Found
-findBytes h l sought = firstColumn (hasBytes h sought) 0 (columnsOf l)
+unfoldable pub find_bytes : List ℕ → BinTable → List ℕ → Found
+find_bytes h l sought = first_column (has_bytes h sought) 0 (columns_of l)

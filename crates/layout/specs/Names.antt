@@ -8,25 +8,25 @@ use Rattle.layout.specs.declared.Name.{Name}
 use Rattle.layout.specs.declared.Name.TheVariants.{Missing, Stretch}
 use Rattle.layout.specs.declared.Column.{Column}
 use Rattle.layout.specs.declared.BinTable.{BinTable}
-use Rattle.layout.specs.Layout.{noColumn, columnsOf}
+use Rattle.layout.specs.Layout.{no_column, columns_of}
 
 -- whether a header has the name: it is not missing, and the header is long enough for its stretch
-abbrev pub inHeader : List ℕ → Name → Bool
-inHeader h Missing = false
-inHeader h (Stretch a n) = leb (a + n) (length h)
+abbrev pub in_header : List ℕ → Name → Bool
+in_header h Missing = false
+in_header h (Stretch a n) = leb (a + n) (length h)
 
 -- the bytes of the stretch; none for a missing name
-abbrev pub stretchOf : List ℕ → Name → List ℕ
-stretchOf h Missing = []
-stretchOf h (Stretch a n) = take n (drop a h)
+abbrev pub stretch_of : List ℕ → Name → List ℕ
+stretch_of h Missing = []
+stretch_of h (Stretch a n) = take n (drop a h)
 
 -- the part of the header that is the name; empty if the name is missing or the header is too short for it
-unfoldable pub partOf : List ℕ → Name → List ℕ
-partOf h s = cond (inHeader h s) (stretchOf h s) []
+unfoldable pub part_of : List ℕ → Name → List ℕ
+part_of h s = cond (in_header h s) (stretch_of h s) []
 
 -- the name of a column; empty if there is no such column
-unfoldable pub columnName : List ℕ → BinTable → ℕ → List ℕ
-columnName h l c = cond (ltb c l.tfields) (partOf h (get_or l.columns c noColumn).name) []
+unfoldable pub column_name : List ℕ → BinTable → ℕ → List ℕ
+column_name h l c = cond (ltb c l.tfields) (part_of h (get_or l.columns c no_column).name) []
 
 -- two quotes (39) next to each other, taken from the front, count as one
 unfoldable pub undoubled : List ℕ → List ℕ
@@ -43,18 +43,18 @@ abbrev pub alike : ℕ → ℕ → Bool
 alike a b = eqb (lowercase a) (lowercase b)
 
 -- whether a name of the header is the one sought: with two quotes as one, as many bytes, each alike to the one in its place
-abbrev pub sameName : List ℕ → List ℕ → Bool
-sameName part sought = pointwise alike (undoubled part) sought
+abbrev pub same_name : List ℕ → List ℕ → Bool
+same_name part sought = pointwise alike (undoubled part) sought
 
 -- whether a column has the name sought
-abbrev pub hasName : List ℕ → List ℕ → Column → Bool
-hasName h sought c = inHeader h c.name && sameName (stretchOf h c.name) sought
+abbrev pub has_name : List ℕ → List ℕ → Column → Bool
+has_name h sought c = in_header h c.name && same_name (stretch_of h c.name) sought
 
 -- the first of some columns that passes a test, counted from c
-unfoldable pub firstColumn : (Column → Bool) → ℕ → List Column → Found
-firstColumn test c [] = Nothing
-firstColumn test c (x ∷ xs) = cond (test x) (At c) (firstColumn test (suc c) xs)
+unfoldable pub first_column : (Column → Bool) → ℕ → List Column → Found
+first_column test c [] = Nothing
+first_column test c (x ∷ xs) = cond (test x) (At c) (first_column test (suc c) xs)
 
 -- the first column that has the name
-unfoldable pub findName : List ℕ → BinTable → List ℕ → Found
-findName h l sought = firstColumn (hasName h sought) 0 (columnsOf l)
+unfoldable pub find_name : List ℕ → BinTable → List ℕ → Found
+find_name h l sought = first_column (has_name h sought) 0 (columns_of l)

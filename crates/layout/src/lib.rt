@@ -5,8 +5,8 @@ mod limits;
 mod ttype;
 
 ghost use Rattle.std.specs.Prelude.{◌≡◌};
-ghost use Rattle.layout.specs.Layout.{layoutOk};
-ghost use Rattle.layout.specs.Names.{columnName, findName};
+ghost use Rattle.layout.specs.Layout.{layout_ok};
+ghost use Rattle.layout.specs.Names.{column_name, find_name};
 
 use ascii::Found;
 use tform::TFormType;
@@ -50,7 +50,7 @@ pub struct BinTable {
 
 // Whether a layout, which anybody can make, keeps every limit and sum.
 pub fn layout_ok(layout: BinTable) -> bool
-    ensures { result ≡ layoutOk layout }
+    ensures { result ≡ layout_ok layout }
 {
     if NAXIS1_LIMIT < layout.naxis1 {
         return false;
@@ -77,7 +77,7 @@ pub fn layout_ok(layout: BinTable) -> bool
 // The name of a column, as a part of the header; empty if there is no such column or name, or the header is too
 // short for it.
 pub fn column_name(header: &[u8], layout: BinTable, column: usize) -> &[u8]
-    ensures { result.now ≡ columnName header.now layout column }
+    ensures { result.now ≡ column_name header.now layout column }
 {
     if layout.tfields <= column {
         return &header[0..0];
@@ -92,7 +92,7 @@ pub fn column_name(header: &[u8], layout: BinTable, column: usize) -> &[u8]
 
 // The first column that has this name, in either case, two quotes of the header counted as one.
 pub fn find_field_by_ttype(header: &[u8], layout: BinTable, name: &[u8]) -> Found
-    ensures { result ≡ findName header.now layout name.now }
+    ensures { result ≡ find_name header.now layout name.now }
 {
     let count = ttype::column_count(layout.tfields);
     let mut i: usize = 0;

@@ -1,13 +1,13 @@
 // The counts and starts of the columns of a layout, which anybody can make.
 ghost use Rattle.std.specs.Prelude.{◌≡◌, ◌≤◌};
-ghost use Rattle.layout.specs.Layout.{columnsOk, columnsOf};
+ghost use Rattle.layout.specs.Layout.{columns_ok, columns_of};
 
 use super::BinTable;
 
 // Whether each count is within its limit, each column starts where the one before ends, and the last ends with the row.
 pub fn columns_ok(layout: BinTable) -> bool
     requires { layout.tfields ≤ 64 }
-    ensures { result ≡ columnsOk layout.naxis1 0 (columnsOf layout) }
+    ensures { result ≡ columns_ok layout.naxis1 0 (columns_of layout) }
 {
     let mut at: u64 = 0;
     let mut i: usize = 0;

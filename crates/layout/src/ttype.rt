@@ -1,6 +1,6 @@
 // The names of columns, in a header that may be another than the one the layout was made from.
 ghost use Rattle.std.specs.Prelude.{◌≡◌, ◌&&◌, cond, ◌+◌, ◌<◌, min, eqb, length, get_or};
-ghost use Rattle.layout.specs.Names.{inHeader, stretchOf, partOf, lowercase, alike, sameName};
+ghost use Rattle.layout.specs.Names.{in_header, stretch_of, part_of, lowercase, alike, same_name};
 
 use super::{Name, TFIELDS_LIMIT};
 
@@ -16,7 +16,7 @@ pub fn column_count(tfields: usize) -> usize
 
 // The part of the header that is the name.
 pub fn part(header: &[u8], name: Name) -> &[u8]
-    ensures { result.now ≡ partOf header.now name }
+    ensures { result.now ≡ part_of header.now name }
 {
     let Name::Stretch { start, len } = name else {
         return &header[0..0];
@@ -31,7 +31,7 @@ pub fn part(header: &[u8], name: Name) -> &[u8]
 
 // Whether there is a name, and the header is long enough for it.
 fn in_header(header: &[u8], name: Name) -> bool
-    ensures { result ≡ inHeader header.now name }
+    ensures { result ≡ in_header header.now name }
 {
     match name {
         Name::Missing => false,
@@ -82,7 +82,7 @@ fn alike(a: u8, b: u8) -> bool
 
 // Whether a name of the header is the one sought.
 fn same_name(part: &[u8], sought: &[u8]) -> bool
-    ensures { result ≡ sameName part.now sought.now }
+    ensures { result ≡ same_name part.now sought.now }
 {
     let mut i: usize = 0;
     let mut j: usize = 0;
@@ -101,7 +101,7 @@ fn same_name(part: &[u8], sought: &[u8]) -> bool
 
 // Whether a column's name is the one sought.
 pub fn has_name(header: &[u8], name: Name, sought: &[u8]) -> bool
-    ensures { result ≡ (inHeader header.now name && sameName (stretchOf header.now name) sought.now) }
+    ensures { result ≡ (in_header header.now name && same_name (stretch_of header.now name) sought.now) }
 {
     if !in_header(header, name) {
         return false;

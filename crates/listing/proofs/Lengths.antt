@@ -6,20 +6,20 @@ use mathlib.Core.List.{List}
 use native.Mathlib.Omega.{arith}
 use lib.ListN.{length, length-append}
 use lib.IntN.{ℤ, pos, negsuc}
-use Rattle.ascii.specs.Buffer.{putIn}
-use Rattle.ascii.proofs.Lengths.{decimal-length}
+use Rattle.ascii.specs.Buffer.{put_in}
+use Rattle.ascii.proofs.Lengths.{decimal_length}
 use Rattle.ascii.proofs.Chain.{Put}
-use Rattle.listing.specs.Text.{signedText, hexText}
+use Rattle.listing.specs.Text.{signed_text, hex_text}
 
-pub signed-length : (z : ℤ) → length (signedText z) ≤ 21
-signed-length (pos n) = omega (arith, decimal-length n)
-signed-length (negsuc n) = omega (arith, decimal-length (suc n))
+pub signed_length : (z : ℤ) → length (signed_text z) ≤ 21
+signed_length (pos n) = omega (arith, decimal_length n)
+signed_length (negsuc n) = omega (arith, decimal_length (suc n))
 
-pub hex-length : (k n : ℕ) → length (hexText k n) ≡ k
-unfolding hexText
-hex-length zero n = refl
-hex-length (suc k) n = simp length-append (omega (arith, hex-length k (n / 16)))
+pub hex_length : (k n : ℕ) → length (hex_text k n) ≡ k
+unfolding hex_text
+hex_length zero n = refl
+hex_length (suc k) n = simp length-append (omega (arith, hex_length k (n / 16)))
 
 -- a text in hexadecimal is as long as its width
-pub hexed : (o : List ℕ) (at k n : ℕ) {p : ℕ} {o' : List ℕ} → (p ≡ at + k) × (o' ≡ putIn o at (hexText k n)) → Put o at (hexText k n) p o'
-hexed o at k n (e, f) = (omega (arith, e, hex-length k n), f)
+pub hexed : (o : List ℕ) (at k n : ℕ) {p : ℕ} {o' : List ℕ} → (p ≡ at + k) × (o' ≡ put_in o at (hex_text k n)) → Put o at (hex_text k n) p o'
+hexed o at k n (e, f) = (omega (arith, e, hex_length k n), f)

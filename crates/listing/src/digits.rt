@@ -1,13 +1,13 @@
 // Signed numbers and bits as digits in the lent buffer.
 ghost use Rattle.std.specs.Prelude.{◌≡◌, ◌+◌, ◌≤◌, ◌<◌, length, nat_abs};
-ghost use Rattle.listing.specs.Text.{signedText, hexText, hexDigit};
-ghost use Rattle.ascii.specs.Buffer.{putIn};
+ghost use Rattle.listing.specs.Text.{signed_text, hex_text, hex_digit};
+ghost use Rattle.ascii.specs.Buffer.{put_in};
 
 // A negative number is its magnitude with a minus sign before it.
 pub fn put_signed(out: &mut [u8], at: usize, n: i64) -> usize
     requires { at + 21 ≤ length out.old }
-    ensures place { result ≡ at + length (signedText n) }
-    ensures buffer { out.new ≡ putIn out.old at (signedText n) }
+    ensures place { result ≡ at + length (signed_text n) }
+    ensures buffer { out.new ≡ put_in out.old at (signed_text n) }
 {
     if n < 0 {
         out[at] = 45;
@@ -32,7 +32,7 @@ fn magnitude(n: i64) -> u64
 pub fn put_hex(out: &mut [u8], at: usize, n: u64, width: usize) -> usize
     requires { (width ≤ 16) × (at + 16 ≤ length out.old) }
     ensures place { result ≡ at + width }
-    ensures buffer { out.new ≡ putIn out.old at (hexText width n) }
+    ensures buffer { out.new ≡ put_in out.old at (hex_text width n) }
 {
     let mut digits = [0u8; 16];
     let mut i = width;
@@ -48,7 +48,7 @@ pub fn put_hex(out: &mut [u8], at: usize, n: u64, width: usize) -> usize
 // 0 to 9, then a to f.
 fn hex_digit(d: u64) -> u8
     requires { d < 16 }
-    ensures { result ≡ hexDigit d }
+    ensures { result ≡ hex_digit d }
 {
     if d < 10 { 48 + d as u8 } else { 87 + d as u8 }
 }

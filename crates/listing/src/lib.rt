@@ -7,8 +7,8 @@ mod values;
 mod words;
 
 ghost use Rattle.std.specs.Prelude.{◌≡◌};
-ghost use Rattle.listing.specs.Lines.{lineText};
-ghost use Rattle.ascii.specs.Buffer.{written, writtenTo};
+ghost use Rattle.listing.specs.Lines.{line_text};
+ghost use Rattle.ascii.specs.Buffer.{written, written_to};
 
 use ascii::Written;
 use cell::Cell;
@@ -37,8 +37,8 @@ pub enum Line {
 // Writes a line and its line feed from a place of the buffer on. The rest of the buffer stays as it was, and where
 // there is no room for all of it, all of the buffer does.
 pub fn put_line(out: &mut [u8], at: usize, header: &[u8], layout: BinTable, line: Line) -> Written
-    ensures to { result ≡ writtenTo out.old at (lineText header.now layout line) }
-    ensures buffer { out.new ≡ written out.old at (lineText header.now layout line) }
+    ensures to { result ≡ written_to out.old at (line_text header.now layout line) }
+    ensures buffer { out.new ≡ written out.old at (line_text header.now layout line) }
 {
     match line {
         Line::Table => lines::table_line(out, at, layout),

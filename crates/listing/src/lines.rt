@@ -1,12 +1,12 @@
 // Each line, made in an array and then copied to the lent buffer, where it has room for all of it.
 ghost use Rattle.std.specs.Prelude.{◌≡◌, [], ◌∷◌, ◌++◌, ◌≤◌, length};
 ghost use Rattle.ascii.specs.Text.{bytes};
-ghost use Rattle.tform.specs.Width.{formLetter};
-ghost use Rattle.refusal.specs.Refusal.{numberOf, placeOf};
-ghost use Rattle.walk.specs.Plain.{columnOf};
-ghost use Rattle.ascii.specs.Buffer.{written, writtenTo};
-ghost use Rattle.ascii.specs.Number.{decimalText};
-ghost use Rattle.listing.specs.Lines.{line, tableLine, columnLine, cellLine, refusedLine, atLine};
+ghost use Rattle.tform.specs.Width.{form_letter};
+ghost use Rattle.refusal.specs.Refusal.{number_of, place_of};
+ghost use Rattle.walk.specs.Plain.{column_of};
+ghost use Rattle.ascii.specs.Buffer.{written, written_to};
+ghost use Rattle.ascii.specs.Number.{decimal_text};
+ghost use Rattle.listing.specs.Lines.{line, table_line, column_line, cell_line, refused_line, at_line};
 
 use crate::{values, words};
 use ascii::Written;
@@ -19,8 +19,8 @@ use walk::TableData;
 // A line of a word and a number.
 pub fn number_line(out: &mut [u8], at: usize, word: &[u8], number: u64) -> Written
     requires { length word.now ≤ 100 }
-    ensures to { result ≡ writtenTo out.old at (line (word.now ∷ decimalText number ∷ [])) }
-    ensures buffer { out.new ≡ written out.old at (line (word.now ∷ decimalText number ∷ [])) }
+    ensures to { result ≡ written_to out.old at (line (word.now ∷ decimal_text number ∷ [])) }
+    ensures buffer { out.new ≡ written out.old at (line (word.now ∷ decimal_text number ∷ [])) }
 {
     let mut text = [0u8; 128];
     let n = words::put_count(&mut text, 0, word, number, 10);
@@ -28,8 +28,8 @@ pub fn number_line(out: &mut [u8], at: usize, word: &[u8], number: u64) -> Writt
 }
 
 pub fn refused_line(out: &mut [u8], at: usize, refusal: Refusal) -> Written
-    ensures to { result ≡ writtenTo out.old at (refusedLine (numberOf refusal) (placeOf refusal)) }
-    ensures buffer { out.new ≡ written out.old at (refusedLine (numberOf refusal) (placeOf refusal)) }
+    ensures to { result ≡ written_to out.old at (refused_line (number_of refusal) (place_of refusal)) }
+    ensures buffer { out.new ≡ written out.old at (refused_line (number_of refusal) (place_of refusal)) }
 {
     let mut text = [0u8; 128];
     let place = words::put_count(&mut text, 0, b"refused", refusal::number(refusal), 32);
@@ -38,8 +38,8 @@ pub fn refused_line(out: &mut [u8], at: usize, refusal: Refusal) -> Written
 }
 
 pub fn at_line(out: &mut [u8], at: usize, cursor: TableData) -> Written
-    ensures to { result ≡ writtenTo out.old at (atLine cursor) }
-    ensures buffer { out.new ≡ written out.old at (atLine cursor) }
+    ensures to { result ≡ written_to out.old at (at_line cursor) }
+    ensures buffer { out.new ≡ written out.old at (at_line cursor) }
 {
     let mut text = [0u8; 128];
     let passed = words::put_count(&mut text, 0, b"at", cursor.row, 32);
@@ -49,8 +49,8 @@ pub fn at_line(out: &mut [u8], at: usize, cursor: TableData) -> Written
 }
 
 pub fn cell_line(out: &mut [u8], at: usize, cell: Cell) -> Written
-    ensures to { result ≡ writtenTo out.old at (cellLine cell) }
-    ensures buffer { out.new ≡ written out.old at (cellLine cell) }
+    ensures to { result ≡ written_to out.old at (cell_line cell) }
+    ensures buffer { out.new ≡ written out.old at (cell_line cell) }
 {
     let value = cell.value;
     let mut text = [0u8; 128];
@@ -63,8 +63,8 @@ pub fn cell_line(out: &mut [u8], at: usize, cell: Cell) -> Written
 }
 
 pub fn table_line(out: &mut [u8], at: usize, layout: BinTable) -> Written
-    ensures to { result ≡ writtenTo out.old at (tableLine layout) }
-    ensures buffer { out.new ≡ written out.old at (tableLine layout) }
+    ensures to { result ≡ written_to out.old at (table_line layout) }
+    ensures buffer { out.new ≡ written out.old at (table_line layout) }
 {
     let mut text = [0u8; 128];
     let columns = words::put_count(&mut text, 0, b"table", layout.tfields as u64, 32);
@@ -77,7 +77,7 @@ pub fn table_line(out: &mut [u8], at: usize, layout: BinTable) -> Written
 // The start of a line, a name and the line feed. The name is a part of the header, of any length, so it does not go
 // through an array.
 fn put_named(out: &mut [u8], at: usize, start: &[u8], name: &[u8]) -> Written
-    ensures to { result ≡ writtenTo out.old at (start.now ++ (name.now ++ (10 ∷ []))) }
+    ensures to { result ≡ written_to out.old at (start.now ++ (name.now ++ (10 ∷ []))) }
     ensures buffer { out.new ≡ written out.old at (start.now ++ (name.now ++ (10 ∷ []))) }
 {
     if out.len() < at {
@@ -95,7 +95,7 @@ fn put_named(out: &mut [u8], at: usize, start: &[u8], name: &[u8]) -> Written
 
 // A column of the layout, and for an index past the array what stands there where there is no column.
 fn column_of(layout: BinTable, c: usize) -> Column
-    ensures { result ≡ columnOf layout c }
+    ensures { result ≡ column_of layout c }
 {
     if TFIELDS_LIMIT <= c {
         let form = TFormType::Items(VariableArrayTy::L);
@@ -112,12 +112,12 @@ fn column_of(layout: BinTable, c: usize) -> Column
 
 // The line of a column, with its name as it is shown.
 fn named_line(out: &mut [u8], at: usize, c: usize, column: Column, name: &[u8]) -> Written
-    ensures to { result ≡ writtenTo out.old at
-        (line (bytes "column" ∷ decimalText c ∷ (formLetter column.form ∷ []) ∷ decimalText column.count
-        ∷ bytes "at" ∷ decimalText column.start ∷ name.now ∷ [])) }
+    ensures to { result ≡ written_to out.old at
+        (line (bytes "column" ∷ decimal_text c ∷ (form_letter column.form ∷ []) ∷ decimal_text column.count
+        ∷ bytes "at" ∷ decimal_text column.start ∷ name.now ∷ [])) }
     ensures buffer { out.new ≡ written out.old at
-        (line (bytes "column" ∷ decimalText c ∷ (formLetter column.form ∷ []) ∷ decimalText column.count
-        ∷ bytes "at" ∷ decimalText column.start ∷ name.now ∷ [])) }
+        (line (bytes "column" ∷ decimal_text c ∷ (form_letter column.form ∷ []) ∷ decimal_text column.count
+        ∷ bytes "at" ∷ decimal_text column.start ∷ name.now ∷ [])) }
 {
     let form = column.form;
     let letter = [tform::form_letter(form)];
@@ -130,8 +130,8 @@ fn named_line(out: &mut [u8], at: usize, c: usize, column: Column, name: &[u8]) 
 }
 
 pub fn column_line(out: &mut [u8], at: usize, header: &[u8], layout: BinTable, c: usize) -> Written
-    ensures to { result ≡ writtenTo out.old at (columnLine header.now layout c) }
-    ensures buffer { out.new ≡ written out.old at (columnLine header.now layout c) }
+    ensures to { result ≡ written_to out.old at (column_line header.now layout c) }
+    ensures buffer { out.new ≡ written out.old at (column_line header.now layout c) }
 {
     let column = column_of(layout, c);
     let name = layout::column_name(header, layout, c);

@@ -1,16 +1,16 @@
 // The value of a cell as text, in a buffer that has room for it.
 ghost use Rattle.std.specs.Prelude.{◌≡◌, ◌+◌, ◌≤◌, length};
-ghost use Rattle.ascii.specs.Buffer.{putIn};
-ghost use Rattle.ascii.specs.Number.{decimalText};
-ghost use Rattle.listing.specs.Text.{hexText, twoTexts, logicalText, valueText};
+ghost use Rattle.ascii.specs.Buffer.{put_in};
+ghost use Rattle.ascii.specs.Number.{decimal_text};
+ghost use Rattle.listing.specs.Text.{hex_text, two_texts, logical_text, value_text};
 
 use crate::{digits, words};
 use cell::{DataValue, Logical};
 
 fn put_logical(out: &mut [u8], at: usize, logical: Logical) -> usize
     requires { at + 21 ≤ length out.old }
-    ensures place { result ≡ at + length (logicalText logical) }
-    ensures buffer { out.new ≡ putIn out.old at (logicalText logical) }
+    ensures place { result ≡ at + length (logical_text logical) }
+    ensures buffer { out.new ≡ put_in out.old at (logical_text logical) }
 {
     match logical {
         Logical::Yes => ascii::buffer::put(out, at, b"T"),
@@ -25,8 +25,8 @@ fn put_logical(out: &mut [u8], at: usize, logical: Logical) -> usize
 
 fn put_two_decimals(out: &mut [u8], at: usize, one: u64, two: u64) -> usize
     requires { at + 41 ≤ length out.old }
-    ensures place { result ≡ at + length (twoTexts (decimalText one) (decimalText two)) }
-    ensures buffer { out.new ≡ putIn out.old at (twoTexts (decimalText one) (decimalText two)) }
+    ensures place { result ≡ at + length (two_texts (decimal_text one) (decimal_text two)) }
+    ensures buffer { out.new ≡ put_in out.old at (two_texts (decimal_text one) (decimal_text two)) }
 {
     let next = words::put_number(out, at, one, 32);
     ascii::digits::put_decimal(out, next, two)
@@ -34,8 +34,8 @@ fn put_two_decimals(out: &mut [u8], at: usize, one: u64, two: u64) -> usize
 
 fn put_two_hex(out: &mut [u8], at: usize, one: u64, two: u64, width: usize) -> usize
     requires { (width ≤ 16) × (at + 33 ≤ length out.old) }
-    ensures place { result ≡ at + length (twoTexts (hexText width one) (hexText width two)) }
-    ensures buffer { out.new ≡ putIn out.old at (twoTexts (hexText width one) (hexText width two)) }
+    ensures place { result ≡ at + length (two_texts (hex_text width one) (hex_text width two)) }
+    ensures buffer { out.new ≡ put_in out.old at (two_texts (hex_text width one) (hex_text width two)) }
 {
     let space = digits::put_hex(out, at, one, width);
     let next = words::put_byte(out, space, 32);
@@ -44,8 +44,8 @@ fn put_two_hex(out: &mut [u8], at: usize, one: u64, two: u64, width: usize) -> u
 
 pub fn put_value(out: &mut [u8], at: usize, value: DataValue) -> usize
     requires { at + 41 ≤ length out.old }
-    ensures place { result ≡ at + length (valueText value) }
-    ensures buffer { out.new ≡ putIn out.old at (valueText value) }
+    ensures place { result ≡ at + length (value_text value) }
+    ensures buffer { out.new ≡ put_in out.old at (value_text value) }
 {
     match value {
         DataValue::Logical(logical) => put_logical(out, at, logical),

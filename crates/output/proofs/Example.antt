@@ -6,22 +6,22 @@ use mathlib.Core.Path.{◌≡◌, refl, ap}
 use mathlib.Core.List.{List, [], ◌∷◌, ◌++◌}
 use lib.Seq.{take_at, drop_at}
 use Rattle.ascii.specs.Text.{bytes, same, spaces}
-use Rattle.card.specs.Record.{cardAt, isEnd}
+use Rattle.card.specs.Record.{card_at, is_end}
 use Rattle.keyword.specs.Names.{range}
-use Rattle.header.specs.Records.{records, hasEnd, beforeEnd, headerLen}
-use Rattle.tform.specs.Width.{among, letterWidth}
-use Rattle.layout.specs.Names.{partOf, columnName}
+use Rattle.header.specs.Records.{records, has_end, before_end, header_len}
+use Rattle.tform.specs.Width.{among, letter_width}
+use Rattle.layout.specs.Names.{part_of, column_name}
 use Rattle.bintable.specs.Entry as B
 use Rattle.cell.specs.Item.{word, item}
 use Rattle.cell.specs.Field.{field}
-use Rattle.walk.specs.Plain.{fieldOf, cells, entriesOf, chosen, columnEntries, columnsEntries, rowEntries}
-use Rattle.walk.specs.Walk.{entriesFrom}
-use Rattle.walk.specs.Step.{choiceFrom, Opening}
+use Rattle.walk.specs.Plain.{field_of, cells, entries_of, chosen, column_entries, columns_entries, row_entries}
+use Rattle.walk.specs.Walk.{entries_from}
+use Rattle.walk.specs.Step.{choice_from, Opening}
 use Rattle.walk.proofs.Examples.{area}
-use Rattle.walk.proofs.Together.{padded, header, one-block, table, enters, opens}
-use Rattle.ascii.specs.Number.{decimalIn}
-use Rattle.listing.specs.Lines.{line, tableLine, columnLine, cellLine, endLine}
-use Rattle.output.specs.Cells.{headerOf, dataOf, entryLines, columnLines, entryOutput, cellsLines}
+use Rattle.walk.proofs.Together.{padded, header, one_block, table, enters, opens}
+use Rattle.ascii.specs.Number.{decimal_in}
+use Rattle.listing.specs.Lines.{line, table_line, column_line, cell_line, end_line}
+use Rattle.output.specs.Cells.{header_of, data_of, entry_lines, column_lines, entry_output, cells_lines}
 
 -- the bytes of the file
 abbrev pub file : List ℕ
@@ -31,12 +31,12 @@ file = header ++ area
 abbrev pub text : String → List ℕ
 text s = bytes s ++ (10 ∷ [])
 
-header-length : headerLen file ≡ 2880
-unfolding headerLen records hasEnd beforeEnd header padded bytes range cardAt isEnd same spaces
-header-length = refl
+header_length : header_len file ≡ 2880
+unfolding header_len records has_end before_end header padded bytes range card_at is_end same spaces
+header_length = refl
 
-parts : (headerOf file ≡ header) × (dataOf file ≡ area)
-parts = (rw header-length (take_at header area 2880 one-block), rw header-length (drop_at header area 2880 one-block))
+parts : (header_of file ≡ header) × (data_of file ≡ area)
+parts = (rw header_length (take_at header area 2880 one_block), rw header_length (drop_at header area 2880 one_block))
 
 unfoldable pub eight : List (List ℕ)
 eight =
@@ -50,10 +50,10 @@ eight =
     ∷ text "end 4"
     ∷ []
 
-lines : entryOutput header area (B.accepted table) ≡ eight
-unfolding eight line tableLine columnLine cellLine endLine decimalIn bytes columnLines entryLines columnName partOf header padded table entriesFrom rowEntries columnsEntries columnEntries chosen choiceFrom fieldOf field entriesOf cells item word letterWidth among
+lines : entry_output header area (B.accepted table) ≡ eight
+unfolding eight line table_line column_line cell_line end_line decimal_in bytes column_lines entry_lines column_name part_of header padded table entries_from row_entries columns_entries column_entries chosen choice_from field_of field entries_of cells item word letter_width among
 lines = rw (ap (λ (o : Opening). o.outcome) opens)
 
 -- what `cells` prints of it
-pub eight-lines : cellsLines file ≡ eight
-eight-lines = rw (parts.0, parts.1, enters) lines
+pub eight_lines : cells_lines file ≡ eight
+eight_lines = rw (parts.0, parts.1, enters) lines

@@ -10,20 +10,20 @@ use lib.Seq.{length-take-le, drop-drop}
 use borrow.Author.Tests.{le-leb, lt-leb, leb-true, leb-false}
 use Rattle.ascii.proofs.Cases.{either}
 use Rattle.ascii.specs.declared.Written.TheVariants.{To, NoRoom}
-use Rattle.ascii.specs.Buffer.{putIn, written, writtenTo}
-use Rattle.ascii.proofs.Lengths.{put-length, take_put, drop-put}
-use Rattle.output.specs.Page.{pageText, pageRest}
+use Rattle.ascii.specs.Buffer.{put_in, written, written_to}
+use Rattle.ascii.proofs.Lengths.{put_length, take_put, drop_put}
+use Rattle.output.specs.Page.{page_text, page_rest}
 
 -- ---- a line that was written, and one that there was no room for
 
 pub record Room (out : List ℕ) (at : ℕ) (t : List ℕ) (e : ℕ) : Type 0 where
   pub room : at + length t ≤ length out
   pub end : e ≡ at + length t
-  pub buffer : written out at t ≡ putIn out at t
+  pub buffer : written out at t ≡ put_in out at t
 
-pub written-to : (out : List ℕ) (at : ℕ) (t : List ℕ) (e : ℕ) → To e ≡ writtenTo out at t → Room out at t e
-unfolding written writtenTo
-written-to out at t e h =
+pub written_to_lem : (out : List ℕ) (at : ℕ) (t : List ℕ) (e : ℕ) → To e ≡ written_to out at t → Room out at t e
+unfolding written written_to
+written_to_lem out at t e h =
     either (leb (at + length t) (length out))
     (λ b. let q : To e ≡ To (at + length t) = rw b at h in record { room = leb-true _ _ b; end = cc; buffer = rw b })
     (λ b. let q : To e ≡ NoRoom = rw b at h in let z : ◌≡◌ {A = ℕ} 0 1 = cc in absurd (omega arith))
@@ -32,9 +32,9 @@ pub record Full (out : List ℕ) (at : ℕ) (t : List ℕ) : Type 0 where
   pub full : length out < at + length t
   pub same : written out at t ≡ out
 
-pub no-room : (out : List ℕ) (at : ℕ) (t : List ℕ) → NoRoom ≡ writtenTo out at t → Full out at t
-unfolding written writtenTo
-no-room out at t h =
+pub no_room : (out : List ℕ) (at : ℕ) (t : List ℕ) → NoRoom ≡ written_to out at t → Full out at t
+unfolding written written_to
+no_room out at t h =
     either (leb (at + length t) (length out))
     (λ b. let q : NoRoom ≡ To (at + length t) = rw b at h in let z : ◌≡◌ {A = ℕ} 0 1 = cc in absurd (omega arith))
     (λ b. record { full = leb-false _ _ b; same = rw b })
@@ -43,50 +43,50 @@ no-room out at t h =
 
 pub record Filled (lines left : List (List ℕ)) (out₀ out : List ℕ) (at : ℕ) : Type 0 where
   pub inside : at ≤ length out
-  pub length-same : length out ≡ length out₀
+  pub length_same : length out ≡ length out₀
   pub back : drop at out ≡ drop at out₀
-  pub text : pageText (length out₀) lines ≡ take at out ++ pageText (length out₀ - at) left
-  pub rest : pageRest (length out₀) lines ≡ pageRest (length out₀ - at) left
+  pub text : page_text (length out₀) lines ≡ take at out ++ page_text (length out₀ - at) left
+  pub rest : page_rest (length out₀) lines ≡ page_rest (length out₀ - at) left
   pub first : at ≡ 0 → left ≡ lines
 
 -- what the page comes to
 pub record Ended (lines left : List (List ℕ)) (out₀ out : List ℕ) (at : ℕ) : Type 0 where
-  pub len : at ≡ length (pageText (length out₀) lines)
-  pub buffer : out ≡ putIn out₀ 0 (pageText (length out₀) lines)
-  pub state : left ≡ pageRest (length out₀) lines
+  pub len : at ≡ length (page_text (length out₀) lines)
+  pub buffer : out ≡ put_in out₀ 0 (page_text (length out₀) lines)
+  pub state : left ≡ page_rest (length out₀) lines
 
 module _ (lines left : List (List ℕ)) (out₀ out : List ℕ) (at : ℕ) (f : Filled lines left out₀ out at) where
   -- nothing more goes onto the page
-  ends : pageText (length out₀ - at) left ≡ [] → pageRest (length out₀ - at) left ≡ left → Ended lines left out₀ out at
-  unfolding putIn
+  ends : page_text (length out₀ - at) left ≡ [] → page_rest (length out₀ - at) left ≡ left → Ended lines left out₀ out at
+  unfolding put_in
   ends e r =
-      let p : pageText (length out₀) lines ≡ take at out = f.text ∙ (rw e (append-nil (take at out))) in
-      let q : length (pageText (length out₀) lines) ≡ at = rw p (length-take-le at out f.inside) in
+      let p : page_text (length out₀) lines ≡ take at out = f.text ∙ (rw e (append-nil (take at out))) in
+      let q : length (page_text (length out₀) lines) ≡ at = rw p (length-take-le at out f.inside) in
       let z : 0 + at ≡ at = omega arith in
       record { len = sym q; buffer = rw (q, z, p, ← f.back) (sym (take-append-drop at out)); state = sym (f.rest ∙ r) }
 
 module _ (lines : List (List ℕ)) (out₀ out : List ℕ) (at : ℕ) where
-  pub ends-none : Filled lines [] out₀ out at → Ended lines [] out₀ out at
-  unfolding pageText pageRest
-  ends-none f = ends lines [] out₀ out at f refl refl
+  pub ends_none : Filled lines [] out₀ out at → Ended lines [] out₀ out at
+  unfolding page_text page_rest
+  ends_none f = ends lines [] out₀ out at f refl refl
 
-  pub ends-full : (t : List ℕ) (ts : List (List ℕ)) → Filled lines (t ∷ ts) out₀ out at → length out < at + length t → Ended lines (t ∷ ts) out₀ out at
-  unfolding pageText pageRest
-  ends-full t ts f h =
-      let b = lt-leb (length t) (length out₀ - at) (omega (arith, f.inside, f.length-same)) in
+  pub ends_full : (t : List ℕ) (ts : List (List ℕ)) → Filled lines (t ∷ ts) out₀ out at → length out < at + length t → Ended lines (t ∷ ts) out₀ out at
+  unfolding page_text page_rest
+  ends_full t ts f h =
+      let b = lt-leb (length t) (length out₀ - at) (omega (arith, f.inside, f.length_same)) in
       ends lines (t ∷ ts) out₀ out at f (rw b) (rw b)
 
   one_more : (t : List ℕ) (ts : List (List ℕ)) → Filled lines (t ∷ ts) out₀ out at → at + length t ≤ length out → 0 < length t
-      → Filled lines ts out₀ (putIn out at t) (at + length t)
-  unfolding pageText pageRest
+      → Filled lines ts out₀ (put_in out at t) (at + length t)
+  unfolding page_text page_rest
   one_more t ts f h k =
-      let b = le-leb (length t) (length out₀ - at) (omega (arith, f.length-same)) in
+      let b = le-leb (length t) (length out₀ - at) (omega (arith, f.length_same)) in
       let z : length out₀ - at - length t ≡ length out₀ - (at + length t) = omega arith in
       record {
-        inside = rw (put-length out at t h) h;
-        length-same = put-length out at t h ∙ f.length-same;
-        back = drop-put out at t h ∙ later;
-        text = f.text ∙ rw (b, z, take_put out at t h) (sym (append_assoc (take at out) t (pageText (length out₀ - (at + length t)) ts)));
+        inside = rw (put_length out at t h) h;
+        length_same = put_length out at t h ∙ f.length_same;
+        back = drop_put out at t h ∙ later;
+        text = f.text ∙ rw (b, z, take_put out at t h) (sym (append_assoc (take at out) t (page_text (length out₀ - (at + length t)) ts)));
         rest = f.rest ∙ rw (b, z);
         first = λ e. absurd (omega arith);
       }
@@ -95,6 +95,6 @@ module _ (lines : List (List ℕ)) (out₀ out : List ℕ) (at : ℕ) where
       later = rw (← drop-drop (length t) at out, f.back, drop-drop (length t) at out₀)
 
   -- one line more, which leaves the buffer `next` and the place e
-  pub more-filled : (t : List ℕ) (ts : List (List ℕ)) (next : List ℕ) (e : ℕ) → Filled lines (t ∷ ts) out₀ out at → Room out at t e → next ≡ written out at t → 0 < length t
+  pub more_filled : (t : List ℕ) (ts : List (List ℕ)) (next : List ℕ) (e : ℕ) → Filled lines (t ∷ ts) out₀ out at → Room out at t e → next ≡ written out at t → 0 < length t
       → Filled lines ts out₀ next e
-  more-filled t ts next e f r w k = rw (w, r.buffer, r.end) (one_more t ts f r.room k)
+  more_filled t ts next e f r w k = rw (w, r.buffer, r.end) (one_more t ts f r.room k)

@@ -9,109 +9,109 @@ use lib.Dec.{eqb, leb, ltb}
 use lib.ListN.{length, take, drop, replicate, get_or, length-append, length-take}
 use lib.Seq.{take-nil, get_or-take, drop-cons}
 use borrow.Author.Tests.{ltb-true, ltb-false}
-use Rattle.ascii.proofs.Cases.{either, by-test}
+use Rattle.ascii.proofs.Cases.{either, by_test}
 use Rattle.layout.specs.declared.BinTable.{BinTable}
 use Rattle.cell.specs.declared.Cell.{Cell}
-use Rattle.cell.specs.Item.{blankCell}
+use Rattle.cell.specs.Item.{blank_cell}
 use Rattle.walk.specs.declared.TableData.{TableData}
 use Rattle.walk.specs.declared.Entry.{Entry}
 use Rattle.walk.specs.declared.Answer.{Answer}
 use Rattle.walk.specs.declared.Answer.TheVariants as A
 use Rattle.walk.specs.declared.Stepped.{Stepped}
-use Rattle.walk.specs.Walk.{Step, readCell, readRow, seek, Gathered, allCells, outside, rest, rowOutcome, walkStep}
-use Rattle.walk.specs.Plain.{rowEntries}
-use Rattle.walk.specs.Step.{belongs, stateOf, Result, cursorStep, replyOf, resultOf}
+use Rattle.walk.specs.Walk.{Step, read_cell, read_row, seek, Gathered, all_cells, outside, rest, row_outcome, walk_step}
+use Rattle.walk.specs.Plain.{row_entries}
+use Rattle.walk.specs.Step.{belongs, state_of, Result, cursor_step, reply_of, result_of}
 use Rattle.row.specs.declared.owners.RowCell.{RowCell}
-use Rattle.row.specs.Owned.{ownList, ownRead}
+use Rattle.row.specs.Owned.{own_list, own_read}
 use Rattle.listing.specs.declared.Line.TheVariants as L
-use Rattle.listing.specs.Lines.{atLine}
+use Rattle.listing.specs.Lines.{at_line}
 use Rattle.steps.specs.declared.Command.{Command}
 use Rattle.steps.specs.declared.Command.TheVariants as C
-use Rattle.steps.specs.Split.{before, linesOf, lineAt, lineFeeds}
-use Rattle.steps.specs.Line.{says, commandOf}
+use Rattle.steps.specs.Split.{before, lines_of, line_at, line_feeds}
+use Rattle.steps.specs.Line.{says, command_of}
 use Rattle.steps.specs.Line as S
-use Rattle.steps.proofs.Lines.{line-length, lines_next, lines_none, feeds-next}
+use Rattle.steps.proofs.Lines.{line_length, lines_next, lines_none, feeds_next}
 use Rattle.output.specs.declared.State.TheVariants as T
 use Rattle.output.specs.declared.Next.TheVariants as N
-use Rattle.output.specs.Replay.{Asked, step, none, asked, rowOf, answerLines, resultLines, lineBy, stepLines}
-use Rattle.output.specs.State.{stepsFrom, storedBy, left, nextLines}
-use Rattle.output.specs.Next.{answerNext, rowNext}
+use Rattle.output.specs.Replay.{Asked, step, none, asked, row_of, answer_lines, result_lines, line_by, step_lines}
+use Rattle.output.specs.State.{steps_from, stored_by, left, next_lines}
+use Rattle.output.specs.Next.{answer_next, row_next}
 
 -- ---- lines of the file
 
 -- there are no more line feeds than bytes
-pub feeds-few : (s : List ℕ) → lineFeeds s ≤ length s
-unfolding lineFeeds
-feeds-few [] = omega arith
-feeds-few (b ∷ bs) = by-test (λ (n : ℕ). n ≤ suc (length bs)) (eqb b 10) (λ e. omega (arith, feeds-few bs)) (λ e. omega (arith, feeds-few bs))
+pub feeds_few : (s : List ℕ) → line_feeds s ≤ length s
+unfolding line_feeds
+feeds_few [] = omega arith
+feeds_few (b ∷ bs) = by_test (λ (n : ℕ). n ≤ suc (length bs)) (eqb b 10) (λ e. omega (arith, feeds_few bs)) (λ e. omega (arith, feeds_few bs))
 
 -- the step that a command is
-abbrev pub askedOf : Command → Asked
-askedOf C.ChooseAll = none
-askedOf C.Choose = none
-askedOf (C.Heap on) = none
-askedOf C.Cell = step readCell
-askedOf (C.Row n) = step (readRow (replicate n blankCell))
-askedOf (C.Seek r) = step (seek r)
-askedOf C.Bad = none
+abbrev pub asked_of : Command → Asked
+asked_of C.ChooseAll = none
+asked_of C.Choose = none
+asked_of (C.Heap on) = none
+asked_of C.Cell = step read_cell
+asked_of (C.Row n) = step (read_row (replicate n blank_cell))
+asked_of (C.Seek r) = step (seek r)
+asked_of C.Bad = none
 
-asked-command : (y : S.Says) → asked y ≡ askedOf (commandOf y)
-asked-command S.chooseAll = refl
-asked-command (S.choose is) = refl
-asked-command (S.heap on) = refl
-asked-command S.cell = refl
-asked-command (S.row n) = refl
-asked-command (S.seek r) = refl
-asked-command S.bad = refl
+asked_command : (y : S.Says) → asked y ≡ asked_of (command_of y)
+asked_command S.choose_all = refl
+asked_command (S.choose is) = refl
+asked_command (S.heap on) = refl
+asked_command S.cell = refl
+asked_command (S.row n) = refl
+asked_command (S.seek r) = refl
+asked_command S.bad = refl
 
 module _ (l : BinTable) (a s : List ℕ) (at : ℕ) where
   -- the place after the line
-  abbrev afterLine : ℕ
-  afterLine = at + before 10 (drop at s) + 1
+  abbrev after_line : ℕ
+  after_line = at + before 10 (drop at s) + 1
 
   -- the later lines have the next number
-  numbered : at < length s → (d : TableData) → stepLines l a (suc (lineFeeds (take at s) + 1)) (linesOf (drop afterLine s)) d ≡ stepsFrom l a s afterLine d
-  unfolding stepLines
+  numbered : at < length s → (d : TableData) → step_lines l a (suc (line_feeds (take at s) + 1)) (lines_of (drop after_line s)) d ≡ steps_from l a s after_line d
+  unfolding step_lines
   numbered h d =
       either (ltb (at + before 10 (drop at s)) (length s))
-      (λ t. rw (feeds-next s at (ltb-true _ _ t), ← add-one (lineFeeds (take at s) + 1)))
-      (λ t. rw (lines_none s afterLine (omega (arith, ltb-false (at + before 10 (drop at s)) (length s) t))))
+      (λ t. rw (feeds_next s at (ltb-true _ _ t), ← add-one (line_feeds (take at s) + 1)))
+      (λ t. rw (lines_none s after_line (omega (arith, ltb-false (at + before 10 (drop at s)) (length s) t))))
 
-  later : (c : TableData) (n : ℕ) (x : Asked) (f g : TableData → List (List ℕ)) → ((d : TableData) → f d ≡ g d) → lineBy l a c n x f ≡ lineBy l a c n x g
-  later c n (step x) f g e = rw (e (cursorStep l a c x).cursor)
+  later : (c : TableData) (n : ℕ) (x : Asked) (f g : TableData → List (List ℕ)) → ((d : TableData) → f d ≡ g d) → line_by l a c n x f ≡ line_by l a c n x g
+  later c n (step x) f g e = rw (e (cursor_step l a c x).cursor)
   later c n none f g e = refl
 
-  steps_next : (c : TableData) → at < length s → stepsFrom l a s at c ≡ lineBy l a c (lineFeeds (take at s) + 1) (asked (says (lineAt s at))) (stepsFrom l a s afterLine)
-  unfolding stepLines
+  steps_next : (c : TableData) → at < length s → steps_from l a s at c ≡ line_by l a c (line_feeds (take at s) + 1) (asked (says (line_at s at))) (steps_from l a s after_line)
+  unfolding step_lines
   steps_next c h =
       rw (lines_next s at h)
-      (later c (lineFeeds (take at s) + 1) (asked (says (lineAt s at))) (stepLines l a (suc (lineFeeds (take at s) + 1)) (linesOf (drop afterLine s))) (stepsFrom l a s afterLine) (numbered h))
+      (later c (line_feeds (take at s) + 1) (asked (says (line_at s at))) (step_lines l a (suc (line_feeds (take at s) + 1)) (lines_of (drop after_line s))) (steps_from l a s after_line) (numbered h))
 
   -- the same as the code finds the line
-  pub steps-command : (c : TableData) (t : List ℕ) (y : Command) → at < length s → t ≡ lineAt s at → y ≡ commandOf (says t)
-      → lineBy l a c (lineFeeds (take at s) + 1) (askedOf y) (stepsFrom l a s (at + length t + 1)) ≡ stepsFrom l a s at c
-  steps-command c t y h e f =
-      let q : y ≡ commandOf (says (lineAt s at)) = f ∙ rw e in
-      let z : length t ≡ before 10 (drop at s) = rw e (line-length s at h) in
-      rw (steps_next c h, asked-command (says (lineAt s at)), q, z)
+  pub steps_command : (c : TableData) (t : List ℕ) (y : Command) → at < length s → t ≡ line_at s at → y ≡ command_of (says t)
+      → line_by l a c (line_feeds (take at s) + 1) (asked_of y) (steps_from l a s (at + length t + 1)) ≡ steps_from l a s at c
+  steps_command c t y h e f =
+      let q : y ≡ command_of (says (line_at s at)) = f ∙ rw e in
+      let z : length t ≡ before 10 (drop at s) = rw e (line_length s at h) in
+      rw (steps_next c h, asked_command (says (line_at s at)), q, z)
 
-pub steps-none : (l : BinTable) (a s : List ℕ) (at : ℕ) (c : TableData) → length s ≤ at → [] ≡ stepsFrom l a s at c
-unfolding stepLines
-steps-none l a s at c h = rw (lines_none s at h)
+pub steps_none : (l : BinTable) (a s : List ℕ) (at : ℕ) (c : TableData) → length s ≤ at → [] ≡ steps_from l a s at c
+unfolding step_lines
+steps_none l a s at c h = rw (lines_none s at h)
 
 -- the cells of a list that a row read stored, from cell k on
-cells-next : (list : List Cell) (m k : ℕ) → k < m → m ≤ length list
-    → drop k (take m list) ≡ get_or list k blankCell ∷ drop (k + 1) (take m list)
-cells-next list m k b i =
-    rw (add-one k, ← get_or-take m list k blankCell b)
-    (drop-cons (take m list) k blankCell (omega (arith, length-take m list)))
+cells_next : (list : List Cell) (m k : ℕ) → k < m → m ≤ length list
+    → drop k (take m list) ≡ get_or list k blank_cell ∷ drop (k + 1) (take m list)
+cells_next list m k b i =
+    rw (add-one k, ← get_or-take m list k blank_cell b)
+    (drop-cons (take m list) k blank_cell (omega (arith, length-take m list)))
 
 -- ---- answers
 
 module _ (h : List ℕ) (l : BinTable) (a s : List ℕ) (at : ℕ) where
   -- with the answer comes the line after it; the list of a row read stays out of it
   by_answer : (x : Step) (y : Answer) (d : TableData)
-      → nextLines h l a s (answerNext y (rowOf x) at d) ≡ answerLines x (replyOf y) [] ++ (atLine d ∷ stepsFrom l a s at d)
+      → next_lines h l a s (answer_next y (row_of x) at d) ≡ answer_lines x (reply_of y) [] ++ (at_line d ∷ steps_from l a s at d)
   by_answer x (A.Cell c) d = refl
   by_answer x (A.Row k) d = rw (take-nil k)
   by_answer x A.Sought d = refl
@@ -119,15 +119,15 @@ module _ (h : List ℕ) (l : BinTable) (a s : List ℕ) (at : ℕ) where
   by_answer x (A.Refused q) d = refl
 
   -- a step with no list
-  pub answer-next : (c : TableData) (x : Step) (r : Stepped) → resultOf r [] ≡ cursorStep l a c x
-      → nextLines h l a s (answerNext r.answer (rowOf x) at r.cursor) ≡ resultLines x (cursorStep l a c x) (stepsFrom l a s at)
-  answer-next c x r e = rw (← e) (by_answer x r.answer r.cursor)
+  pub answer_next_lem : (c : TableData) (x : Step) (r : Stepped) → result_of r [] ≡ cursor_step l a c x
+      → next_lines h l a s (answer_next r.answer (row_of x) at r.cursor) ≡ result_lines x (cursor_step l a c x) (steps_from l a s at)
+  answer_next_lem c x r e = rw (← e) (by_answer x r.answer r.cursor)
 
   -- ---- row reads
 
   by_row : (c : TableData) (n : ℕ) (y : Answer) (d : TableData)
-      → let o = ownRead l a c blankCell n in replyOf y ≡ o.reply → d ≡ o.cursor
-      → nextLines h l a s (rowNext y at c n d) ≡ resultLines (readRow (ownList blankCell n)) o (stepsFrom l a s at)
+      → let o = own_read l a c blank_cell n in reply_of y ≡ o.reply → d ≡ o.cursor
+      → next_lines h l a s (row_next y at c n d) ≡ result_lines (read_row (own_list blank_cell n)) o (steps_from l a s at)
   by_row c n (A.Cell x) d e q = rw (← e, q)
   by_row c n (A.Row k) d e q = rw (← e)
   by_row c n A.Sought d e q = rw (← e, q)
@@ -135,42 +135,42 @@ module _ (h : List ℕ) (l : BinTable) (a s : List ℕ) (at : ℕ) where
   by_row c n (A.Refused x) d e q = rw (← e, q)
 
   -- a row read into a list of n cells
-  pub row_next : (c : TableData) (n : ℕ) (r : Stepped) → n ≤ 512
-      → resultOf r (ownRead l a c blankCell n).list ≡ ownRead l a c blankCell n
-      → let x = readRow (replicate n blankCell) in
-      nextLines h l a s (rowNext r.answer at c n r.cursor) ≡ resultLines x (cursorStep l a c x) (stepsFrom l a s at)
-  row_next c n r k e =
+  pub row_next_lem : (c : TableData) (n : ℕ) (r : Stepped) → n ≤ 512
+      → result_of r (own_read l a c blank_cell n).list ≡ own_read l a c blank_cell n
+      → let x = read_row (replicate n blank_cell) in
+      next_lines h l a s (row_next r.answer at c n r.cursor) ≡ result_lines x (cursor_step l a c x) (steps_from l a s at)
+  row_next_lem c n r k e =
       let q : min n 512 ≡ n = omega arith in
       rw q at (by_row c n r.answer r.cursor (ap (λ (o : Result). o.reply) e) (ap (λ (o : Result). o.cursor) e))
 
   -- ---- the cells of a row read
 
   -- what it stored lies within the list
-  by-gathered : (c : TableData) (list : List Cell) (rows : ℕ → List Entry) (g : Gathered)
-      → let o = rowOutcome rows l.naxis2 (stateOf c) list g in storedBy o.reply ≤ length o.list
-  by-gathered c list rows (outside j) = omega arith
-  by-gathered c list rows (allCells cs) =
+  by_gathered : (c : TableData) (list : List Cell) (rows : ℕ → List Entry) (g : Gathered)
+      → let o = row_outcome rows l.naxis2 (state_of c) list g in stored_by o.reply ≤ length o.list
+  by_gathered c list rows (outside j) = omega arith
+  by_gathered c list rows (all_cells cs) =
       either (leb (length cs) (length list)) (λ b. rw b (omega (arith, length-append cs (drop (length cs) list))))
       (λ b. rw b (omega arith))
 
-  stored-inside : (c : TableData) (list : List Cell)
-      → let o = cursorStep l a c (readRow list) in storedBy o.reply ≤ length o.list
-  unfolding cursorStep walkStep
-  stored-inside c list =
-      let rows = rowEntries l a c.choice c.heap in
+  stored_inside : (c : TableData) (list : List Cell)
+      → let o = cursor_step l a c (read_row list) in stored_by o.reply ≤ length o.list
+  unfolding cursor_step walk_step
+  stored_inside c list =
+      let rows = row_entries l a c.choice c.heap in
       either (belongs l a c)
       (λ f.
-      either (ltb c.row l.naxis2) (λ t. rw (f, t) (by-gathered c list rows (rest rows l.naxis2 (stateOf c))))
+      either (ltb c.row l.naxis2) (λ t. rw (f, t) (by_gathered c list rows (rest rows l.naxis2 (state_of c))))
       (λ t. rw (f, t) (omega arith)))
       (λ f. rw f (omega arith))
 
   module _ (c : TableData) (n k : ℕ) (r : RowCell)
-      (e : resultOf r.stepped (ownRead l a c blankCell n).list ≡ ownRead l a c blankCell n) where
+      (e : result_of r.stepped (own_read l a c blank_cell n).list ≡ own_read l a c blank_cell n) where
     -- the next one
-    pub listed-next : r.cell ≡ get_or (ownRead l a c blankCell n).list k blankCell
-        → k < storedBy (replyOf r.stepped.answer)
-        → nextLines h l a s (N.Line (L.Cell r.cell) (T.Listed at c n (k + 1))) ≡ left h l a s (T.Listed at c n k)
-    listed-next f b =
-        let o = ownRead l a c blankCell n in
-        let m : replyOf r.stepped.answer ≡ o.reply = ap (λ (x : Result). x.reply) e in
-        rw (cells-next o.list (storedBy o.reply) k (rw m at b) (stored-inside c (ownList blankCell n)), f)
+    pub listed_next : r.cell ≡ get_or (own_read l a c blank_cell n).list k blank_cell
+        → k < stored_by (reply_of r.stepped.answer)
+        → next_lines h l a s (N.Line (L.Cell r.cell) (T.Listed at c n (k + 1))) ≡ left h l a s (T.Listed at c n k)
+    listed_next f b =
+        let o = own_read l a c blank_cell n in
+        let m : reply_of r.stepped.answer ≡ o.reply = ap (λ (x : Result). x.reply) e in
+        rw (cells_next o.list (stored_by o.reply) k (rw m at b) (stored_inside c (own_list blank_cell n)), f)

@@ -6,18 +6,18 @@ use mathlib.Core.List.{List}
 use native.Mathlib.Omega.{arith}
 use lib.ListN.{length, take, length-take}
 use lib.Seq.{length-take-le}
-use Rattle.ascii.proofs.Cases.{by-test}
-use Rattle.header.specs.Records.{records, hasEnd, headerLen}
-use Rattle.output.specs.Cells.{fileLimit, headerOf}
+use Rattle.ascii.proofs.Cases.{by_test}
+use Rattle.header.specs.Records.{records, has_end, header_len}
+use Rattle.output.specs.Cells.{file_limit, header_of}
 
 -- the header lies within the file
-pub header-inside : (f : List ℕ) → headerLen f ≤ length f
-unfolding headerLen
-header-inside f = by-test (λ (n : ℕ). n ≤ length f) (hasEnd (records f)) (λ e. omega arith) (λ e. omega arith)
+pub header_inside : (f : List ℕ) → header_len f ≤ length f
+unfolding header_len
+header_inside f = by_test (λ (n : ℕ). n ≤ length f) (has_end (records f)) (λ e. omega arith) (λ e. omega arith)
 
-pub header-length : (f : List ℕ) → headerLen f ≡ length (headerOf f)
-header-length f = sym (length-take-le (headerLen f) f (header-inside f))
+pub header_length : (f : List ℕ) → header_len f ≡ length (header_of f)
+header_length f = sym (length-take-le (header_len f) f (header_inside f))
 
 -- the first bytes of a file are no more than are looked at
-pub first-few : (t f : List ℕ) → t ≡ take fileLimit f → length t ≤ fileLimit
-first-few t f e = rw e (omega (arith, length-take fileLimit f))
+pub first_few : (t f : List ℕ) → t ≡ take file_limit f → length t ≤ file_limit
+first_few t f e = rw e (omega (arith, length-take file_limit f))

@@ -10,22 +10,22 @@ use Rattle.cell.specs.declared.Cell.{Cell}
 use Rattle.walk.specs.declared.Entry.{Entry}
 use Rattle.walk.specs.declared.Entry.TheVariants as E
 use Rattle.walk.specs.Walk.{stop}
-use Rattle.listing.specs.Lines.{cellLine, endLine, refusedLine}
-use Rattle.output.specs.Cells.{entryLines}
+use Rattle.listing.specs.Lines.{cell_line, end_line, refused_line}
+use Rattle.output.specs.Cells.{entry_lines}
 
 abbrev pub entries : List Cell → List Entry
 entries [] = []
 entries (c ∷ cs) = E.Cell c ∷ entries cs
 
-pub shown-all : (cs : List Cell) (n : ℕ) → n + length cs ≤ stop → entryLines n (entries cs) ≡ map cellLine cs ++ (endLine (n + length cs) ∷ [])
-unfolding entryLines
-shown-all [] n h = let z : n + 0 ≡ n = omega arith in rw z
-shown-all (c ∷ cs) n h =
+pub shown_all : (cs : List Cell) (n : ℕ) → n + length cs ≤ stop → entry_lines n (entries cs) ≡ map cell_line cs ++ (end_line (n + length cs) ∷ [])
+unfolding entry_lines
+shown_all [] n h = let z : n + 0 ≡ n = omega arith in rw z
+shown_all (c ∷ cs) n h =
     let z : min stop (n + 1) ≡ n + 1 = omega arith in
     let y : n + 1 + length cs ≡ n + suc (length cs) = omega arith in
-    rw (z, ← y) (ap (λ (ts : List (List ℕ)). cellLine c ∷ ts) (shown-all cs (n + 1) (omega arith)))
+    rw (z, ← y) (ap (λ (ts : List (List ℕ)). cell_line c ∷ ts) (shown_all cs (n + 1) (omega arith)))
 
-pub shown-outside : (cs : List Cell) (k : ℕ) (es : List Entry) (n : ℕ) → entryLines n (entries cs ++ (E.OutsideHeap k ∷ es)) ≡ map cellLine cs ++ (refusedLine 13 k ∷ [])
-unfolding entryLines
-shown-outside [] k es n = refl
-shown-outside (c ∷ cs) k es n = ap (λ (ts : List (List ℕ)). cellLine c ∷ ts) (shown-outside cs k es (min stop (n + 1)))
+pub shown_outside : (cs : List Cell) (k : ℕ) (es : List Entry) (n : ℕ) → entry_lines n (entries cs ++ (E.OutsideHeap k ∷ es)) ≡ map cell_line cs ++ (refused_line 13 k ∷ [])
+unfolding entry_lines
+shown_outside [] k es n = refl
+shown_outside (c ∷ cs) k es n = ap (λ (ts : List (List ℕ)). cell_line c ∷ ts) (shown_outside cs k es (min stop (n + 1)))

@@ -2,11 +2,11 @@
 -- Assumes nothing.
 use Rattle.std.specs.Prelude.{ℕ, ◌+◌, ◌≡◌, List, take, drop}
 use Rattle.layout.specs.declared.BinTable.{BinTable}
-use Rattle.walk.specs.Step.{Selection, allColumns, listed}
+use Rattle.walk.specs.Step.{Selection, all_columns, listed}
 use Rattle.steps.specs.declared.Command.{Command}
 use Rattle.steps.specs.declared.Command.TheVariants as C
-use Rattle.steps.specs.Split.{linesOf, lineAt, lineFeeds}
-use Rattle.steps.specs.Line.{says, indexesOf}
+use Rattle.steps.specs.Split.{lines_of, line_at, line_feeds}
+use Rattle.steps.specs.Line.{says, indexes_of}
 use Rattle.output.specs.Replay as R
 use Rattle.output.specs.declared.settings.Chosen.{Chosen}
 use Rattle.output.specs.declared.settings.Chosen.TheVariants as H
@@ -15,12 +15,12 @@ use Rattle.output.specs.declared.settings.Change.{Change}
 use Rattle.output.specs.declared.settings.Change.TheVariants as G
 
 -- the columns: all, or those of the line that begins at a place of the steps s
-abbrev pub columnsIn : List ℕ → Chosen → Selection
-columnsIn s H.All = allColumns
-columnsIn s (H.LineAt at) = listed (indexesOf (says (lineAt s at)))
+abbrev pub columns_in : List ℕ → Chosen → Selection
+columns_in s H.All = all_columns
+columns_in s (H.LineAt at) = listed (indexes_of (says (line_at s at)))
 
-abbrev pub settingsIn : List ℕ → Settings → R.Settings
-settingsIn s t = record { columns = columnsIn s t.chosen; heap = t.heap }
+abbrev pub settings_in : List ℕ → Settings → R.Settings
+settings_in s t = record { columns = columns_in s t.chosen; heap = t.heap }
 
 -- what a command changes, of a line that is n bytes long
 abbrev pub changed : Settings → Command → ℕ → Change
@@ -35,9 +35,9 @@ changed t C.Bad n = G.Over
 -- the settings t of the steps s, with the place after their lines, stand for the lines before the first step, whatever the table
 abbrev pub Read : List ℕ → Settings → Type 0
 Read s t =
-    (l : BinTable) (a : List ℕ) → R.opened l a (settingsIn s t) (lineFeeds (take t.at s) + 1) (linesOf (drop t.at s)) ≡ R.settingLines l a R.defaults 1 (linesOf s)
+    (l : BinTable) (a : List ℕ) → R.opened l a (settings_in s t) (line_feeds (take t.at s) + 1) (lines_of (drop t.at s)) ≡ R.setting_lines l a R.defaults 1 (lines_of s)
 
 -- the same while they are read: what is still to come
 abbrev pub Reading : List ℕ → Settings → Type 0
 Reading s t =
-    (l : BinTable) (a : List ℕ) → R.settingLines l a (settingsIn s t) (lineFeeds (take t.at s) + 1) (linesOf (drop t.at s)) ≡ R.settingLines l a R.defaults 1 (linesOf s)
+    (l : BinTable) (a : List ℕ) → R.setting_lines l a (settings_in s t) (line_feeds (take t.at s) + 1) (lines_of (drop t.at s)) ≡ R.setting_lines l a R.defaults 1 (lines_of s)

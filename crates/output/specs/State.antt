@@ -2,56 +2,56 @@
 -- Assumes nothing.
 use Rattle.std.specs.Prelude.{ℕ, ◌+◌, ◌-◌, cond, List, [], ◌∷◌, ◌++◌, map, take, drop}
 use Rattle.layout.specs.declared.BinTable.{BinTable}
-use Rattle.refusal.specs.Refusal.{numberOf, placeOf}
+use Rattle.refusal.specs.Refusal.{number_of, place_of}
 use Rattle.bintable.specs.Entry as B
-use Rattle.cell.specs.Item.{blankCell}
+use Rattle.cell.specs.Item.{blank_cell}
 use Rattle.walk.specs.declared.TableData.{TableData}
-use Rattle.walk.specs.Walk.{Reply, gotCell, gotRow, sought, atEnd, refused}
-use Rattle.walk.specs.Step.{belongs, cursorLeft, Result}
-use Rattle.row.specs.Owned.{ownRead}
-use Rattle.listing.specs.Lines.{cellLine, refusedLine, atLine, lineText}
-use Rattle.steps.specs.Split.{linesOf, lineFeeds}
+use Rattle.walk.specs.Walk.{Reply, got_cell, got_row, sought, at_end, refused}
+use Rattle.walk.specs.Step.{belongs, cursor_left, Result}
+use Rattle.row.specs.Owned.{own_read}
+use Rattle.listing.specs.Lines.{cell_line, refused_line, at_line, line_text}
+use Rattle.steps.specs.Split.{lines_of, line_feeds}
 use Rattle.output.specs.declared.State.{State}
 use Rattle.output.specs.declared.State.TheVariants as S
 use Rattle.output.specs.declared.Next.{Next}
 use Rattle.output.specs.declared.Next.TheVariants as N
-use Rattle.output.specs.Cells.{headerOf, dataOf, entryLines, columnLines, afterColumns, entryOutput}
-use Rattle.output.specs.Replay.{stepLines}
+use Rattle.output.specs.Cells.{header_of, data_of, entry_lines, column_lines, after_columns, entry_output}
+use Rattle.output.specs.Replay.{step_lines}
 
 -- the steps from place `at` of their file on. The number of a line is one more than the line feeds before it
-abbrev pub stepsFrom : BinTable → List ℕ → List ℕ → ℕ → TableData → List (List ℕ)
-stepsFrom l a s at = stepLines l a (lineFeeds (take at s) + 1) (linesOf (drop at s))
+abbrev pub steps_from : BinTable → List ℕ → List ℕ → ℕ → TableData → List (List ℕ)
+steps_from l a s at = step_lines l a (line_feeds (take at s) + 1) (lines_of (drop at s))
 
 -- how many cells a row read stored, by its answer
-abbrev pub storedBy : Reply → ℕ
-storedBy (gotCell c) = 0
-storedBy (gotRow k) = k
-storedBy sought = 0
-storedBy atEnd = 0
-storedBy (refused n p) = 0
+abbrev pub stored_by : Reply → ℕ
+stored_by (got_cell c) = 0
+stored_by (got_row k) = k
+stored_by sought = 0
+stored_by at_end = 0
+stored_by (refused n p) = 0
 
 -- those from cell k on, as lines, and what comes after them
-abbrev pub listedFrom : ℕ → Result → (TableData → List (List ℕ)) → List (List ℕ)
-listedFrom k o later =
-    map cellLine (drop k (take (storedBy o.reply) o.list)) ++ (atLine o.cursor ∷ later o.cursor)
+abbrev pub listed_from : ℕ → Result → (TableData → List (List ℕ)) → List (List ℕ)
+listed_from k o later =
+    map cell_line (drop k (take (stored_by o.reply) o.list)) ++ (at_line o.cursor ∷ later o.cursor)
 
 -- a header, a layout, a data area and a file of steps
 module _ (h : List ℕ) (l : BinTable) (a s : List ℕ) where
   abbrev pub left : State → List (List ℕ)
-  left S.Table = entryOutput h a (B.accepted l)
-  left (S.Column c) = columnLines h l c (l.tfields - c) ++ afterColumns l a
-  left (S.Cells c) = cond (belongs l a c) (entryLines c.count (cursorLeft l a c)) (refusedLine 10 0 ∷ [])
-  left (S.Step at c) = stepsFrom l a s at c
-  left (S.At at c) = atLine c ∷ stepsFrom l a s at c
-  left (S.Listed at c n k) = listedFrom k (ownRead l a c blankCell n) (stepsFrom l a s at)
-  left (S.Refused r) = refusedLine (numberOf r) (placeOf r) ∷ []
+  left S.Table = entry_output h a (B.accepted l)
+  left (S.Column c) = column_lines h l c (l.tfields - c) ++ after_columns l a
+  left (S.Cells c) = cond (belongs l a c) (entry_lines c.count (cursor_left l a c)) (refused_line 10 0 ∷ [])
+  left (S.Step at c) = steps_from l a s at c
+  left (S.At at c) = at_line c ∷ steps_from l a s at c
+  left (S.Listed at c n k) = listed_from k (own_read l a c blank_cell n) (steps_from l a s at)
+  left (S.Refused r) = refused_line (number_of r) (place_of r) ∷ []
   left S.Done = []
 
   -- the line that is next, and what is left after it
-  abbrev pub nextLines : Next → List (List ℕ)
-  nextLines (N.Line x t) = lineText h l x ∷ left t
-  nextLines N.Nothing = []
+  abbrev pub next_lines : Next → List (List ℕ)
+  next_lines (N.Line x t) = line_text h l x ∷ left t
+  next_lines N.Nothing = []
 
 -- what is left to print of a file
-abbrev pub fileLeft : List ℕ → BinTable → List ℕ → State → List (List ℕ)
-fileLeft f l s t = left (headerOf f) l (dataOf f) s t
+abbrev pub file_left : List ℕ → BinTable → List ℕ → State → List (List ℕ)
+file_left f l s t = left (header_of f) l (data_of f) s t

@@ -1,6 +1,6 @@
 // The lines of `cells`.
 ghost use Rattle.std.specs.Prelude.{◌≡◌};
-ghost use Rattle.output.specs.State.{left, nextLines};
+ghost use Rattle.output.specs.State.{left, next_lines};
 
 use crate::{Next, State};
 use layout::BinTable;
@@ -16,7 +16,7 @@ pub fn next_cell(
     steps: &[u8],
     cursor: TableData,
 ) -> Next
-    ensures { nextLines header.now layout area.now steps.now result
+    ensures { next_lines header.now layout area.now steps.now result
         ≡ left header.now layout area.now steps.now (State.Cells cursor) }
 {
     let stepped = table::next(layout, area, cursor);
@@ -43,7 +43,7 @@ pub fn next_cell(
 
 // The line of a column. After the last one all columns are opened, with the heap on.
 pub fn next_column(header: &[u8], layout: BinTable, area: &[u8], steps: &[u8], c: usize) -> Next
-    ensures { nextLines header.now layout area.now steps.now result
+    ensures { next_lines header.now layout area.now steps.now result
         ≡ left header.now layout area.now steps.now (State.Column c) }
 {
     if c < layout.tfields {

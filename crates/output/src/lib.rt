@@ -7,13 +7,13 @@ mod replay;
 mod settings;
 
 ghost use Rattle.std.specs.Prelude.{◌≡◌, ◌+◌, [], length, take};
-ghost use Rattle.refusal.specs.Refusal.{outcomeOf};
-ghost use Rattle.bintable.specs.Entry.{allChecks, entry, layoutIn};
-ghost use Rattle.ascii.specs.Buffer.{putIn};
-ghost use Rattle.output.specs.Cells.{fileLimit, headerOf, dataOf, cellsLines};
-ghost use Rattle.output.specs.Replay.{replayLines};
-ghost use Rattle.output.specs.State.{left, nextLines, fileLeft};
-ghost use Rattle.output.specs.Page.{pageText, pageRest, Whole};
+ghost use Rattle.refusal.specs.Refusal.{outcome_of};
+ghost use Rattle.bintable.specs.Entry.{all_checks, entry, layout_in};
+ghost use Rattle.ascii.specs.Buffer.{put_in};
+ghost use Rattle.output.specs.Cells.{file_limit, header_of, data_of, cells_lines};
+ghost use Rattle.output.specs.Replay.{replay_lines};
+ghost use Rattle.output.specs.State.{left, next_lines, file_left};
+ghost use Rattle.output.specs.Page.{page_text, page_rest, Whole};
 
 use bintable::Parsed;
 use layout::BinTable;
@@ -78,7 +78,7 @@ pub struct Start {
 
 // The next line. The header is that of the layout; only the text of a column's line speaks of it.
 fn next_line(header: &[u8], layout: BinTable, area: &[u8], steps: &[u8], state: State) -> Next
-    ensures { nextLines header.now layout area.now steps.now result ≡ left header.now layout area.now steps.now state }
+    ensures { next_lines header.now layout area.now steps.now result ≡ left header.now layout area.now steps.now state }
 {
     match state {
         State::Table => Next::Line {
@@ -106,12 +106,12 @@ fn next_line(header: &[u8], layout: BinTable, area: &[u8], steps: &[u8], state: 
 // The next page of a file's lines: as many whole lines as the buffer has room for, the rest of it as it was. Where
 // the buffer is 128 bytes longer than the file there is room for every line, so an empty page is the last.
 pub fn next_page(file: &[u8], layout: BinTable, steps: &[u8], state: State, out: &mut [u8]) -> Page
-    ensures len { result.len ≡ length (pageText (length out.old) (fileLeft file.now layout steps.now state)) }
-    ensures buffer { out.new ≡ putIn out.old 0 (pageText (length out.old) (fileLeft file.now layout steps.now state)) }
-    ensures state { fileLeft file.now layout steps.now result.state
-        ≡ pageRest (length out.old) (fileLeft file.now layout steps.now state) }
+    ensures len { result.len ≡ length (page_text (length out.old) (file_left file.now layout steps.now state)) }
+    ensures buffer { out.new ≡ put_in out.old 0 (page_text (length out.old) (file_left file.now layout steps.now state)) }
+    ensures state { file_left file.now layout steps.now result.state
+        ≡ page_rest (length out.old) (file_left file.now layout steps.now state) }
     ensures whole { Whole (length file.now + 128) (length out.old) result.len
-        (fileLeft file.now layout steps.now state) }
+        (file_left file.now layout steps.now state) }
 {
     let len = header::header_len(file);
     pages::fill_page(&file[..len], layout, &file[len..], steps, state, out)
@@ -119,7 +119,7 @@ pub fn next_page(file: &[u8], layout: BinTable, steps: &[u8], state: State, out:
 
 // The bytes of a file that are looked at.
 pub fn first_bytes(file: &[u8]) -> &[u8]
-    ensures { result.now ≡ take fileLimit file.now }
+    ensures { result.now ≡ take file_limit file.now }
 {
     if FILE_LIMIT < file.len() {
         return &file[..FILE_LIMIT];
@@ -129,8 +129,8 @@ pub fn first_bytes(file: &[u8]) -> &[u8]
 
 // The entry of a file: its header through the block that has END, and the data after it.
 pub fn parse_file(file: &[u8]) -> Parsed
-    ensures check { outcomeOf result.check ≡ allChecks (headerOf file.now) (dataOf file.now) }
-    ensures layout { result.layout ≡ layoutIn (entry (headerOf file.now) (dataOf file.now)) }
+    ensures check { outcome_of result.check ≡ all_checks (header_of file.now) (data_of file.now) }
+    ensures layout { result.layout ≡ layout_in (entry (header_of file.now) (data_of file.now)) }
 {
     let len = header::header_len(file);
     bintable::parse(&file[..len], &file[len..])
@@ -138,8 +138,8 @@ pub fn parse_file(file: &[u8]) -> Parsed
 
 // The layout of a file's table, and the state in which `cells` starts.
 pub fn cells_start(file: &[u8]) -> Start
-    ensures layout { result.layout ≡ layoutIn (entry (headerOf file.now) (dataOf file.now)) }
-    ensures lines { fileLeft file.now result.layout [] result.state ≡ cellsLines file.now }
+    ensures layout { result.layout ≡ layout_in (entry (header_of file.now) (data_of file.now)) }
+    ensures lines { file_left file.now result.layout [] result.state ≡ cells_lines file.now }
 {
     let parsed = parse_file(file);
     let check = parsed.check;
@@ -158,9 +158,9 @@ pub fn cells_start(file: &[u8]) -> Start
 
 // The layout of a file's table, and the state in which `replay` starts.
 pub fn replay_start(file: &[u8], steps: &[u8]) -> Start
-    ensures layout { result.layout ≡ layoutIn (entry (headerOf file.now) (dataOf file.now)) }
-    ensures lines { fileLeft file.now result.layout (take fileLimit steps.now) result.state
-        ≡ replayLines file.now (take fileLimit steps.now) }
+    ensures layout { result.layout ≡ layout_in (entry (header_of file.now) (data_of file.now)) }
+    ensures lines { file_left file.now result.layout (take file_limit steps.now) result.state
+        ≡ replay_lines file.now (take file_limit steps.now) }
 {
     let parsed = parse_file(file);
     let check = parsed.check;
@@ -177,9 +177,9 @@ pub fn replay_start(file: &[u8], steps: &[u8]) -> Start
 // The first page of the lines that `replay` prints: as many whole lines as the buffer has room for, the rest of it
 // as it was.
 pub fn replay_text(file: &[u8], steps: &[u8], out: &mut [u8]) -> usize
-    ensures len { result ≡ length (pageText (length out.old) (replayLines file.now (take fileLimit steps.now))) }
-    ensures buffer { out.new ≡ putIn out.old 0
-        (pageText (length out.old) (replayLines file.now (take fileLimit steps.now))) }
+    ensures len { result ≡ length (page_text (length out.old) (replay_lines file.now (take file_limit steps.now))) }
+    ensures buffer { out.new ≡ put_in out.old 0
+        (page_text (length out.old) (replay_lines file.now (take file_limit steps.now))) }
 {
     let start = replay_start(file, steps);
     let layout = start.layout;

@@ -1,8 +1,8 @@
 // As many whole lines as the buffer has room for.
 ghost use Rattle.std.specs.Prelude.{◌≡◌, ◌+◌, length};
-ghost use Rattle.ascii.specs.Buffer.{putIn};
+ghost use Rattle.ascii.specs.Buffer.{put_in};
 ghost use Rattle.output.specs.State.{left};
-ghost use Rattle.output.specs.Page.{pageText, pageRest, Whole};
+ghost use Rattle.output.specs.Page.{page_text, page_rest, Whole};
 
 use crate::{Next, Page, State};
 use ascii::Written;
@@ -16,11 +16,11 @@ pub fn fill_page(
     state: State,
     out: &mut [u8],
 ) -> Page
-    ensures len { result.len ≡ length (pageText (length out.old) (left header.now layout area.now steps.now state)) }
-    ensures buffer { out.new ≡ putIn out.old 0
-        (pageText (length out.old) (left header.now layout area.now steps.now state)) }
+    ensures len { result.len ≡ length (page_text (length out.old) (left header.now layout area.now steps.now state)) }
+    ensures buffer { out.new ≡ put_in out.old 0
+        (page_text (length out.old) (left header.now layout area.now steps.now state)) }
     ensures state { left header.now layout area.now steps.now result.state
-        ≡ pageRest (length out.old) (left header.now layout area.now steps.now state) }
+        ≡ page_rest (length out.old) (left header.now layout area.now steps.now state) }
     ensures whole { Whole (length header.now + 128) (length out.old) result.len
         (left header.now layout area.now steps.now state) }
 {

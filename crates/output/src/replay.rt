@@ -1,9 +1,9 @@
 // The lines of `replay` from the first step on.
 ghost use Rattle.std.specs.Prelude.{◌≡◌, ◌+◌, ◌≤◌, length, take};
-ghost use Rattle.walk.specs.Step.{replyOf};
-ghost use Rattle.steps.specs.Split.{lineFeeds};
-ghost use Rattle.output.specs.State.{storedBy, left, nextLines};
-ghost use Rattle.output.specs.Next.{answerNext, rowNext};
+ghost use Rattle.walk.specs.Step.{reply_of};
+ghost use Rattle.steps.specs.Split.{line_feeds};
+ghost use Rattle.output.specs.State.{stored_by, left, next_lines};
+ghost use Rattle.output.specs.Next.{answer_next, row_next};
 
 use crate::{Next, State};
 use layout::BinTable;
@@ -13,7 +13,7 @@ use walk::{Answer, TableData};
 
 // The line of an answer, and that the cursor's place and count come after it.
 fn answered(answer: Answer, row: usize, at: usize, cursor: TableData) -> Next
-    ensures { result ≡ answerNext answer row at cursor }
+    ensures { result ≡ answer_next answer row at cursor }
 {
     let state = State::At { at, cursor };
     match answer {
@@ -42,7 +42,7 @@ fn answered(answer: Answer, row: usize, at: usize, cursor: TableData) -> Next
 
 // The line of a row read's answer: the cells of its list come after it.
 fn row_answered(answer: Answer, at: usize, reader: TableData, len: usize, cursor: TableData) -> Next
-    ensures { result ≡ rowNext answer at reader len cursor }
+    ensures { result ≡ row_next answer at reader len cursor }
 {
     match answer {
         Answer::Row(cells) => Next::Line {
@@ -64,7 +64,7 @@ fn row_answered(answer: Answer, at: usize, reader: TableData, len: usize, cursor
 // The line at a place of the steps says no step.
 fn bad_line(steps: &[u8], at: usize) -> Next
     requires { at ≤ length steps.now }
-    ensures { result ≡ Next.Line (Line.BadLine (lineFeeds (take at steps.now) + 1)) State.Done }
+    ensures { result ≡ Next.Line (Line.BadLine (line_feeds (take at steps.now) + 1)) State.Done }
 {
     Next::Line {
         line: Line::BadLine(steps::line_feeds(&steps[..at]) + 1),
@@ -81,7 +81,7 @@ pub fn next_step(
     at: usize,
     cursor: TableData,
 ) -> Next
-    ensures { nextLines header.now layout area.now steps.now result
+    ensures { next_lines header.now layout area.now steps.now result
         ≡ left header.now layout area.now steps.now (State.Step at cursor) }
 {
     if steps.len() <= at {
@@ -119,7 +119,7 @@ pub fn next_step(
 
 // How many cells a row read stored, by its answer.
 fn stored(answer: Answer) -> u64
-    ensures { result ≡ storedBy (replyOf answer) }
+    ensures { result ≡ stored_by (reply_of answer) }
 {
     match answer {
         Answer::Row(cells) => cells,
@@ -142,7 +142,7 @@ pub fn next_listed(
     len: usize,
     k: usize,
 ) -> Next
-    ensures { nextLines header.now layout area.now steps.now result
+    ensures { next_lines header.now layout area.now steps.now result
         ≡ left header.now layout area.now steps.now (State.Listed at reader len k) }
 {
     let read = row::owners::row_cell(layout, area, reader, cell::blank_cell(), len, k);

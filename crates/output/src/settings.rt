@@ -1,10 +1,10 @@
 // The lines before the first step, and the opening with what they set.
 ghost use Rattle.std.specs.Prelude.{◌≡◌, ℕ, ◌+◌, ◌<◌, ◌^◌, List};
-ghost use Rattle.walk.specs.Step.{openWith, openingOf};
-ghost use Rattle.steps.specs.Split.{linesOf};
+ghost use Rattle.walk.specs.Step.{open_with, opening_of};
+ghost use Rattle.steps.specs.Split.{lines_of};
 ghost use Rattle.output.specs.State.{left};
-ghost use Rattle.output.specs.Replay.{settingLines, defaults};
-ghost use Rattle.output.specs.Settings.{columnsIn, changed, Read};
+ghost use Rattle.output.specs.Replay.{setting_lines, defaults};
+ghost use Rattle.output.specs.Settings.{columns_in, changed, Read};
 
 use crate::State;
 use layout::{BinTable, TFIELDS_LIMIT};
@@ -88,7 +88,7 @@ fn read_settings(steps: &[u8]) -> Settings
 
 // The opening with what the lines set.
 fn open(layout: BinTable, area: &[u8], steps: &[u8], chosen: Chosen, heap: bool) -> Opened
-    ensures { openingOf result ≡ openWith layout area.now (columnsIn steps.now chosen) heap }
+    ensures { opening_of result ≡ open_with layout area.now (columns_in steps.now chosen) heap }
 {
     match chosen {
         Chosen::All => table::open(layout, area, heap),
@@ -104,7 +104,7 @@ fn open(layout: BinTable, area: &[u8], steps: &[u8], chosen: Chosen, heap: bool)
 // The state in which the first step is next, or the refusal of the opening.
 pub fn first_step(layout: BinTable, area: &[u8], steps: &[u8]) -> State
     ensures { (h : List ℕ) → left h layout area.now steps.now result
-        ≡ settingLines layout area.now defaults 1 (linesOf steps.now) }
+        ≡ setting_lines layout area.now defaults 1 (lines_of steps.now) }
 {
     let settings = read_settings(steps);
     let chosen = settings.chosen;

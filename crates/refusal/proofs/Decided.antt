@@ -8,7 +8,7 @@ use Rattle.refusal.specs.declared.Refusal.{Refusal}
 use Rattle.refusal.specs.declared.Refusal.TheVariants as R
 use Rattle.refusal.specs.declared.Check.{Check}
 use Rattle.refusal.specs.declared.Check.TheVariants.{Passed, Refused}
-use Rattle.refusal.specs.Refusal.{Outcome, accepted, refused, numberOf, placeOf, outcomeOf}
+use Rattle.refusal.specs.Refusal.{Outcome, accepted, refused, number_of, place_of, outcome_of}
 
 -- the causes by their numbers, with a place
 abbrev causes : ℕ → List Refusal
@@ -16,7 +16,7 @@ causes p =
     R.BadLength ∷ R.MissingEnd ∷ R.RepeatedName p ∷ R.MissingName p ∷ R.UnreadableValue p ∷ R.InvalidValue p ∷ R.AboveLimit p ∷ R.BadForm p
     ∷ R.RowSizeMismatch ∷ R.Mismatch ∷ R.NoColumn ∷ R.NoSuchRow p ∷ R.ArrayOutsideHeap p ∷ R.ShortList p ∷ []
 
-cause : (r : Refusal) → get_or (causes (placeOf r)) (numberOf r - 1) R.BadLength ≡ r
+cause : (r : Refusal) → get_or (causes (place_of r)) (number_of r - 1) R.BadLength ≡ r
 cause R.BadLength = refl
 cause R.MissingEnd = refl
 cause (R.RepeatedName k) = refl
@@ -33,13 +33,13 @@ cause (R.ArrayOutsideHeap c) = refl
 cause (R.ShortList n) = refl
 
 -- the check that an outcome is
-abbrev pub checkOf : Outcome → Check
-checkOf accepted = Passed
-checkOf (refused n p) = Refused (get_or (causes p) (n - 1) R.BadLength)
+abbrev pub check_of : Outcome → Check
+check_of accepted = Passed
+check_of (refused n p) = Refused (get_or (causes p) (n - 1) R.BadLength)
 
-pub check-back : (c : Check) → checkOf (outcomeOf c) ≡ c
-check-back Passed = refl
-check-back (Refused r) = ap Refused (cause r)
+pub check_back : (c : Check) → check_of (outcome_of c) ≡ c
+check_back Passed = refl
+check_back (Refused r) = ap Refused (cause r)
 
-pub outcome-decides : (a b : Check) → outcomeOf a ≡ outcomeOf b → a ≡ b
-outcome-decides a b e = sym (check-back a) ∙ ap checkOf e ∙ check-back b
+pub outcome_decides : (a b : Check) → outcome_of a ≡ outcome_of b → a ≡ b
+outcome_decides a b e = sym (check_back a) ∙ ap check_of e ∙ check_back b

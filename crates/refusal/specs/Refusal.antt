@@ -16,39 +16,39 @@ abbrev pub before : Outcome → Outcome → Outcome
 before accepted o = o
 before (refused number place) o = refused number place
 
-abbrev pub numberOf : Refusal → ℕ
-numberOf R.BadLength = 1
-numberOf R.MissingEnd = 2
-numberOf (R.RepeatedName k) = 3
-numberOf (R.MissingName n) = 4
-numberOf (R.UnreadableValue k) = 5
-numberOf (R.InvalidValue k) = 6
-numberOf (R.AboveLimit k) = 7
-numberOf (R.BadForm n) = 8
-numberOf R.RowSizeMismatch = 9
-numberOf R.Mismatch = 10
-numberOf R.NoColumn = 11
-numberOf (R.NoSuchRow r) = 12
-numberOf (R.ArrayOutsideHeap c) = 13
-numberOf (R.ShortList n) = 14
+abbrev pub number_of : Refusal → ℕ
+number_of R.BadLength = 1
+number_of R.MissingEnd = 2
+number_of (R.RepeatedName k) = 3
+number_of (R.MissingName n) = 4
+number_of (R.UnreadableValue k) = 5
+number_of (R.InvalidValue k) = 6
+number_of (R.AboveLimit k) = 7
+number_of (R.BadForm n) = 8
+number_of R.RowSizeMismatch = 9
+number_of R.Mismatch = 10
+number_of R.NoColumn = 11
+number_of (R.NoSuchRow r) = 12
+number_of (R.ArrayOutsideHeap c) = 13
+number_of (R.ShortList n) = 14
 
-abbrev pub placeOf : Refusal → ℕ
-placeOf R.BadLength = 0
-placeOf R.MissingEnd = 0
-placeOf (R.RepeatedName k) = k
-placeOf (R.MissingName n) = n
-placeOf (R.UnreadableValue k) = k
-placeOf (R.InvalidValue k) = k
-placeOf (R.AboveLimit k) = k
-placeOf (R.BadForm n) = n
-placeOf R.RowSizeMismatch = 0
-placeOf R.Mismatch = 0
-placeOf R.NoColumn = 0
-placeOf (R.NoSuchRow r) = r
-placeOf (R.ArrayOutsideHeap c) = c
-placeOf (R.ShortList n) = n
+abbrev pub place_of : Refusal → ℕ
+place_of R.BadLength = 0
+place_of R.MissingEnd = 0
+place_of (R.RepeatedName k) = k
+place_of (R.MissingName n) = n
+place_of (R.UnreadableValue k) = k
+place_of (R.InvalidValue k) = k
+place_of (R.AboveLimit k) = k
+place_of (R.BadForm n) = n
+place_of R.RowSizeMismatch = 0
+place_of R.Mismatch = 0
+place_of R.NoColumn = 0
+place_of (R.NoSuchRow r) = r
+place_of (R.ArrayOutsideHeap c) = c
+place_of (R.ShortList n) = n
 
 -- the outcome that the code's answer is
-abbrev pub outcomeOf : Check → Outcome
-outcomeOf Passed = accepted
-outcomeOf (Refused r) = refused (numberOf r) (placeOf r)
+abbrev pub outcome_of : Check → Outcome
+outcome_of Passed = accepted
+outcome_of (Refused r) = refused (number_of r) (place_of r)

@@ -2,7 +2,7 @@
 #![tactic(auto)]
 
 ghost use Rattle.std.specs.Prelude.{◌≡◌};
-ghost use Rattle.refusal.specs.Refusal.{numberOf, placeOf};
+ghost use Rattle.refusal.specs.Refusal.{number_of, place_of};
 
 // The causes of a refusal. docs/FORMAT.md, section 10, gives each its number and place.
 #[derive(Clone, Copy)]
@@ -35,7 +35,7 @@ pub enum Check {
 
 // The number of a refusal.
 pub fn number(refusal: Refusal) -> u64
-    ensures { result ≡ numberOf refusal }
+    ensures { result ≡ number_of refusal }
 {
     match refusal {
         Refusal::BadLength => 1,
@@ -57,7 +57,7 @@ pub fn number(refusal: Refusal) -> u64
 
 // The place of a refusal.
 pub fn place(refusal: Refusal) -> u64
-    ensures { result ≡ placeOf refusal }
+    ensures { result ≡ place_of refusal }
 {
     match refusal {
         Refusal::BadLength => 0,

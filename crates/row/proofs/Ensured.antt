@@ -17,100 +17,100 @@ use denote.Ref.{Bor}
 use denote.MutBor.{MutBor}
 use Rattle.layout.specs.declared.BinTable.{BinTable}
 use Rattle.bintable.specs.declared.Parsed.{Parsed}
-use Rattle.bintable.specs.contracts.parse as bintable-parse
+use Rattle.bintable.specs.contracts.parse as bintable_parse
 use Rattle.cell.specs.declared.Cell.{Cell}
 use Rattle.walk.specs.declared.TableData.{TableData}
 use Rattle.walk.specs.declared.Answer.{Answer}
 use Rattle.walk.specs.declared.Opened.{Opened}
 use Rattle.walk.specs.declared.Stepped.{Stepped}
-use Rattle.walk.specs.Step.{allColumns, listed}
-use Rattle.table.specs.contracts.open as table-open
-use Rattle.table.specs.contracts.select_fields as table-select-fields
-use Rattle.table.specs.contracts.next as table-next
-use Rattle.table.specs.contracts.seek_to_row as table-seek-to-row
+use Rattle.walk.specs.Step.{all_columns, listed}
+use Rattle.table.specs.contracts.open as table_open
+use Rattle.table.specs.contracts.select_fields as table_select_fields
+use Rattle.table.specs.contracts.next as table_next
+use Rattle.table.specs.contracts.seek_to_row as table_seek_to_row
 use Rattle.row.specs.declared.owners.RowCell.{RowCell}
-use Rattle.row.specs.Owned.{ownList, ownRead}
+use Rattle.row.specs.Owned.{own_list, own_read}
 use Rattle.row.specs.Ran.{CheckEnsures, LayoutEnsures, OpenEnsures, NextEnsures, RowEnsures, SeekEnsures, LentNextEnsures, LentRowEnsures, LentSeekEnsures}
-use Rattle.row.specs.contracts.read_row as read-row
-use Rattle.row.specs.contracts.next as lent-next
-use Rattle.row.specs.contracts.next_row as lent-next-row
-use Rattle.row.specs.contracts.seek_to_row as lent-seek-to-row
-use Rattle.row.specs.contracts.owners.next as own-next
-use Rattle.row.specs.contracts.owners.seek_to_row as own-seek-to-row
-use Rattle.row.specs.contracts.owners.row_cell as own-row-cell
+use Rattle.row.specs.contracts.read_row as read_row_by_value
+use Rattle.row.specs.contracts.next as lent_next
+use Rattle.row.specs.contracts.next_row as lent_next_row
+use Rattle.row.specs.contracts.seek_to_row as lent_seek_to_row
+use Rattle.row.specs.contracts.owners.next as own_next
+use Rattle.row.specs.contracts.owners.seek_to_row as own_seek_to_row
+use Rattle.row.specs.contracts.owners.row_cell as own_row_cell
 
 module _ {M : Type 1} {𝓤 : Ura M} (𝓛 : Logic 𝓤) (mem : Memory → SProp 𝓤) (run : Routine → Fun 𝓤) (κ κ' κ'' : Lft) (l : BinTable) (area : Bor (List ℕ)) where
   -- ---- the entry and opening
 
-  pub parse-ensures : (header : Bor (List ℕ)) (r : Parsed)
-      → (bintable-parse.clauses 𝓛 mem run (κ, (κ', tt)) (header, (area, tt))).ensures tt r (header, (area, tt))
+  pub parse_ensures : (header : Bor (List ℕ)) (r : Parsed)
+      → (bintable_parse.clauses 𝓛 mem run (κ, (κ', tt)) (header, (area, tt))).ensures tt r (header, (area, tt))
       ≡ sep 𝓤 (fact 𝓤 (CheckEnsures header.now area.now r)) (fact 𝓤 (LayoutEnsures header.now area.now r))
-  parse-ensures header r = refl
+  parse_ensures header r = refl
 
-  pub open-ensures : (heap : Bool) (r : Opened)
-      → (table-open.clauses 𝓛 mem run (κ, tt) (l, (area, (heap, tt)))).ensures tt r (l, (area, (heap, tt)))
-      ≡ fact 𝓤 (OpenEnsures l area.now allColumns heap r)
-  open-ensures heap r = refl
+  pub open_ensures : (heap : Bool) (r : Opened)
+      → (table_open.clauses 𝓛 mem run (κ, tt) (l, (area, (heap, tt)))).ensures tt r (l, (area, (heap, tt)))
+      ≡ fact 𝓤 (OpenEnsures l area.now all_columns heap r)
+  open_ensures heap r = refl
 
-  pub select-ensures : (cols : Bor (List ℕ)) (heap : Bool) (r : Opened)
-      → (table-select-fields.clauses 𝓛 mem run (κ, (κ', tt)) (l, (area, (cols, (heap, tt))))).ensures tt r (l, (area, (cols, (heap, tt))))
+  pub select_ensures : (cols : Bor (List ℕ)) (heap : Bool) (r : Opened)
+      → (table_select_fields.clauses 𝓛 mem run (κ, (κ', tt)) (l, (area, (cols, (heap, tt))))).ensures tt r (l, (area, (cols, (heap, tt))))
       ≡ fact 𝓤 (OpenEnsures l area.now (listed cols.now) heap r)
-  select-ensures cols heap r = refl
+  select_ensures cols heap r = refl
 
   -- ---- the steps by value
 
   module _ (cursor : TableData) where
-    pub next-ensures : (r : Stepped)
-        → (table-next.clauses 𝓛 mem run (κ, tt) (l, (area, (cursor, tt)))).ensures tt r (l, (area, (cursor, tt)))
+    pub next_ensures : (r : Stepped)
+        → (table_next.clauses 𝓛 mem run (κ, tt) (l, (area, (cursor, tt)))).ensures tt r (l, (area, (cursor, tt)))
         ≡ fact 𝓤 (NextEnsures l area.now cursor r)
-    next-ensures r = refl
+    next_ensures r = refl
 
-    pub row-ensures : (list after : MutBor (List Cell)) (r : Stepped)
-        → (read-row.clauses 𝓛 mem run (κ, (κ', tt)) (l, (area, (cursor, (list, tt))))).ensures tt r (l, (area, (cursor, (after, tt))))
+    pub row_ensures : (list after : MutBor (List Cell)) (r : Stepped)
+        → (read_row_by_value.clauses 𝓛 mem run (κ, (κ', tt)) (l, (area, (cursor, (list, tt))))).ensures tt r (l, (area, (cursor, (after, tt))))
         ≡ fact 𝓤 (RowEnsures l area.now cursor list.now after.now r)
-    row-ensures list after r = refl
+    row_ensures list after r = refl
 
-    pub seek-ensures : (row : ℕ) (r : Stepped)
-        → (table-seek-to-row.clauses 𝓛 mem run (κ, tt) (l, (area, (cursor, (row, tt))))).ensures tt r (l, (area, (cursor, (row, tt))))
+    pub seek_ensures : (row : ℕ) (r : Stepped)
+        → (table_seek_to_row.clauses 𝓛 mem run (κ, tt) (l, (area, (cursor, (row, tt))))).ensures tt r (l, (area, (cursor, (row, tt))))
         ≡ fact 𝓤 (SeekEnsures l area.now cursor row r)
-    seek-ensures row r = refl
+    seek_ensures row r = refl
 
     -- ---- the owners
 
-    pub own-next-ensures : (r : Stepped)
-        → (own-next.clauses 𝓛 mem run (κ, tt) (l, (area, (cursor, tt)))).ensures tt r (l, (area, (cursor, tt)))
+    pub own_next_ensures : (r : Stepped)
+        → (own_next.clauses 𝓛 mem run (κ, tt) (l, (area, (cursor, tt)))).ensures tt r (l, (area, (cursor, tt)))
         ≡ fact 𝓤 (NextEnsures l area.now cursor r)
-    own-next-ensures r = refl
+    own_next_ensures r = refl
 
-    pub own-seek-ensures : (row : ℕ) (r : Stepped)
-        → (own-seek-to-row.clauses 𝓛 mem run (κ, tt) (l, (area, (cursor, (row, tt))))).ensures tt r (l, (area, (cursor, (row, tt))))
+    pub own_seek_ensures : (row : ℕ) (r : Stepped)
+        → (own_seek_to_row.clauses 𝓛 mem run (κ, tt) (l, (area, (cursor, (row, tt))))).ensures tt r (l, (area, (cursor, (row, tt))))
         ≡ fact 𝓤 (SeekEnsures l area.now cursor row r)
-    own-seek-ensures row r = refl
+    own_seek_ensures row r = refl
 
     -- a row read into a list of the owner's, and a cell of what it holds afterwards
     module _ (filler : Cell) (n k : ℕ) where
       abbrev lists : List Cell
-      lists = (ownRead l area.now cursor filler n).list
+      lists = (own_read l area.now cursor filler n).list
 
-      pub own-row-ensures : (r : RowCell)
-          → (own-row-cell.clauses 𝓛 mem run (κ, tt) (l, (area, (cursor, (filler, (n, (k, tt))))))).ensures tt r (l, (area, (cursor, (filler, (n, (k, tt))))))
-          ≡ sep 𝓤 (fact 𝓤 (RowEnsures l area.now cursor (ownList filler n) lists r.stepped)) (fact 𝓤 (r.cell ≡ get_or lists k filler))
-      own-row-ensures r = refl
+      pub own_row_ensures : (r : RowCell)
+          → (own_row_cell.clauses 𝓛 mem run (κ, tt) (l, (area, (cursor, (filler, (n, (k, tt))))))).ensures tt r (l, (area, (cursor, (filler, (n, (k, tt))))))
+          ≡ sep 𝓤 (fact 𝓤 (RowEnsures l area.now cursor (own_list filler n) lists r.stepped)) (fact 𝓤 (r.cell ≡ get_or lists k filler))
+      own_row_ensures r = refl
 
   -- ---- the steps over a lent cursor
 
   module _ (cursor moved : MutBor TableData) where
-    pub lent-next-ensures : (r : Answer)
-        → (lent-next.clauses 𝓛 mem run (κ, (κ', tt)) (cursor, (l, (area, tt)))).ensures tt r (moved, (l, (area, tt)))
+    pub lent_next_ensures : (r : Answer)
+        → (lent_next.clauses 𝓛 mem run (κ, (κ', tt)) (cursor, (l, (area, tt)))).ensures tt r (moved, (l, (area, tt)))
         ≡ fact 𝓤 (LentNextEnsures l area.now cursor.now moved.now r)
-    lent-next-ensures r = refl
+    lent_next_ensures r = refl
 
-    pub lent-row-ensures : (list after : MutBor (List Cell)) (r : Answer)
-        → (lent-next-row.clauses 𝓛 mem run (κ, (κ', (κ'', tt))) (cursor, (l, (area, (list, tt))))).ensures tt r (moved, (l, (area, (after, tt))))
+    pub lent_row_ensures : (list after : MutBor (List Cell)) (r : Answer)
+        → (lent_next_row.clauses 𝓛 mem run (κ, (κ', (κ'', tt))) (cursor, (l, (area, (list, tt))))).ensures tt r (moved, (l, (area, (after, tt))))
         ≡ fact 𝓤 (LentRowEnsures l area.now cursor.now moved.now list.now after.now r)
-    lent-row-ensures list after r = refl
+    lent_row_ensures list after r = refl
 
-    pub lent-seek-ensures : (row : ℕ) (r : Answer)
-        → (lent-seek-to-row.clauses 𝓛 mem run (κ, (κ', tt)) (cursor, (l, (area, (row, tt))))).ensures tt r (moved, (l, (area, (row, tt))))
+    pub lent_seek_ensures : (row : ℕ) (r : Answer)
+        → (lent_seek_to_row.clauses 𝓛 mem run (κ, (κ', tt)) (cursor, (l, (area, (row, tt))))).ensures tt r (moved, (l, (area, (row, tt))))
         ≡ fact 𝓤 (LentSeekEnsures l area.now cursor.now moved.now row r)
-    lent-seek-ensures row r = refl
+    lent_seek_ensures row r = refl

@@ -9,7 +9,7 @@ use native.Mathlib.Nat.{add-zero, zero-add, add-suc, suc-add, zero-sub, sub-zero
 use native.Mathlib.Omega.{arith}
 use lib.ListN.{length, drop, length-append}
 use lib.Dec.{eqb, leb}
-use Rattle.ascii.proofs.Cases.{by-test}
+use Rattle.ascii.proofs.Cases.{by_test}
 use Rattle.tform.specs.declared.VariableArrayTy.{VariableArrayTy}
 use Rattle.tform.specs.declared.VariableArrayTy.TheVariants.{L}
 use Rattle.tform.specs.declared.TFormType.{TFormType}
@@ -23,92 +23,92 @@ use Rattle.cell.specs.declared.DataValue.TheVariants as D
 use Rattle.cell.specs.declared.Field.{Field}
 use Rattle.cell.specs.declared.Field.TheVariants as F
 use Rattle.cell.specs.Item.{word, width}
-use Rattle.cell.specs.Field.{array, field32, field64, fieldBy, field, sizeOf}
+use Rattle.cell.specs.Field.{array, field32, field64, field_by, field, size_of}
 use Rattle.walk.specs.declared.TableData.{TableData}
 use Rattle.walk.specs.declared.Stepped.{Stepped}
 use Rattle.walk.specs.declared.Entry.{Entry}
 use Rattle.walk.specs.declared.Entry.TheVariants as E
-use Rattle.walk.specs.Plain.{columnOf, fieldOf, cellOf, itemAt, cells, entriesOf, chosen, columnEntries, columnSize}
-use Rattle.walk.specs.Walk.{Gathered, allCells, outside, before, gather}
+use Rattle.walk.specs.Plain.{column_of, field_of, cell_of, item_at, cells, entries_of, chosen, column_entries, column_size}
+use Rattle.walk.specs.Walk.{Gathered, all_cells, outside, before, gather}
 use Rattle.row.specs.declared.plan.FieldKind.{FieldKind}
 use Rattle.row.specs.declared.plan.FieldKind.TheVariants as K
 use Rattle.row.specs.declared.plan.FieldPlan.{FieldPlan}
-use Rattle.row.specs.Plan.{cellIn, descriptorKind, planOf, fieldPlan, isOutside, plannedCell, planAt, planFor}
+use Rattle.row.specs.Plan.{cell_in, descriptor_kind, plan_of, field_plan, is_outside, planned_cell, plan_at, plan_for}
 
 -- Q of two choices by the same test
-pub by-both {ℓ κ} : {A : Type ℓ} {B : Type κ} (Q : A → B → Type 0) (t : Bool) {x y : A} {u v : B} → (t ≡ true → Q x u) → (t ≡ false → Q y v)
+pub by_both {ℓ κ} : {A : Type ℓ} {B : Type κ} (Q : A → B → Type 0) (t : Bool) {x y : A} {u v : B} → (t ≡ true → Q x u) → (t ≡ false → Q y v)
     → Q (cond t x y) (cond t u v)
-by-both Q true f g = f refl
-by-both Q false f g = g refl
+by_both Q true f g = f refl
+by_both Q false f g = g refl
 
 -- ---- some cells
 
 -- f i, f (i + 1), .. , n of them
-abbrev pub cellsFrom : (ℕ → Cell) → ℕ → ℕ → List Cell
-cellsFrom f i zero = []
-cellsFrom f i (suc n) = f i ∷ cellsFrom f (suc i) n
+abbrev pub cells_from : (ℕ → Cell) → ℕ → ℕ → List Cell
+cells_from f i zero = []
+cells_from f i (suc n) = f i ∷ cells_from f (suc i) n
 
-pub cells-length : (f : ℕ → Cell) (i n : ℕ) → length (cellsFrom f i n) ≡ n
-cells-length f i zero = refl
-cells-length f i (suc n) = ap suc (cells-length f (suc i) n)
+pub cells_length : (f : ℕ → Cell) (i n : ℕ) → length (cells_from f i n) ≡ n
+cells_length f i zero = refl
+cells_length f i (suc n) = ap suc (cells_length f (suc i) n)
 
-pub cells-before : (f : ℕ → Cell) (n : ℕ) (cs : List Cell) → length (cellsFrom f 0 n ++ cs) ≡ n + length cs
-cells-before f n cs = length-append (cellsFrom f 0 n) cs ∙ rw (cells-length f 0 n)
+pub cells_before : (f : ℕ → Cell) (n : ℕ) (cs : List Cell) → length (cells_from f 0 n ++ cs) ≡ n + length cs
+cells_before f n cs = length-append (cells_from f 0 n) cs ∙ rw (cells_length f 0 n)
 
-cells-last : (f : ℕ → Cell) (i n : ℕ) → cellsFrom f i (suc n) ≡ cellsFrom f i n ++ (f (i + n) ∷ [])
-cells-last f i zero = rw add-zero
-cells-last f i (suc n) = rw (add-suc i n, ← suc-add i n) (ap (λ (xs : List Cell). f i ∷ xs) (cells-last f (suc i) n))
+cells_last : (f : ℕ → Cell) (i n : ℕ) → cells_from f i (suc n) ≡ cells_from f i n ++ (f (i + n) ∷ [])
+cells_last f i zero = rw add-zero
+cells_last f i (suc n) = rw (add-suc i n, ← suc-add i n) (ap (λ (xs : List Cell). f i ∷ xs) (cells_last f (suc i) n))
 
-pub cells-more : (f : ℕ → Cell) (n : ℕ) → cellsFrom f 0 (suc n) ≡ cellsFrom f 0 n ++ (f n ∷ [])
-cells-more f n = cells-last f 0 n ∙ rw (zero-add n)
+pub cells_more : (f : ℕ → Cell) (n : ℕ) → cells_from f 0 (suc n) ≡ cells_from f 0 n ++ (f n ∷ [])
+cells_more f n = cells_last f 0 n ∙ rw (zero-add n)
 
-cells-later : (f : ℕ → Cell) (k i n : ℕ) → cellsFrom (λ j. f (k + j)) i n ≡ cellsFrom f (k + i) n
-cells-later f k i zero = refl
-cells-later f k i (suc n) = ap (λ (xs : List Cell). f (k + i) ∷ xs) (cells-later f k (suc i) n ∙ rw (add-suc k i))
+cells_later : (f : ℕ → Cell) (k i n : ℕ) → cells_from (λ j. f (k + j)) i n ≡ cells_from f (k + i) n
+cells_later f k i zero = refl
+cells_later f k i (suc n) = ap (λ (xs : List Cell). f (k + i) ∷ xs) (cells_later f k (suc i) n ∙ rw (add-suc k i))
 
 -- ---- cells before what was gathered
 
-abbrev pub beforeAll : List Cell → Gathered → Gathered
-beforeAll xs (allCells cs) = allCells (xs ++ cs)
-beforeAll xs (outside k) = outside k
+abbrev pub before_all : List Cell → Gathered → Gathered
+before_all xs (all_cells cs) = all_cells (xs ++ cs)
+before_all xs (outside k) = outside k
 
-none_before : (g : Gathered) → beforeAll [] g ≡ g
-none_before (allCells cs) = refl
+none_before : (g : Gathered) → before_all [] g ≡ g
+none_before (all_cells cs) = refl
 none_before (outside k) = refl
 
-one-before : (x : Cell) (xs : List Cell) (g : Gathered) → before x (beforeAll xs g) ≡ beforeAll (x ∷ xs) g
-one-before x xs (allCells cs) = refl
-one-before x xs (outside k) = refl
+one_before : (x : Cell) (xs : List Cell) (g : Gathered) → before x (before_all xs g) ≡ before_all (x ∷ xs) g
+one_before x xs (all_cells cs) = refl
+one_before x xs (outside k) = refl
 
 -- ---- the entries of a field
 
 module _ (r c : ℕ) (v : ℕ → DataValue) where
-  cells-drop : (i n j : ℕ) (es : List Entry) → drop j (cells r c v i n ++ es) ≡ cells r c v (i + j) (n - j) ++ drop (j - n) es
+  cells_drop : (i n j : ℕ) (es : List Entry) → drop j (cells r c v i n ++ es) ≡ cells r c v (i + j) (n - j) ++ drop (j - n) es
   unfolding cells
-  cells-drop i zero j es = rw (zero-sub j, sub-zero j)
-  cells-drop i (suc n) zero es = rw (add-zero i, zero-sub (suc n), sub-zero (suc n))
-  cells-drop i (suc n) (suc j) es = rw (suc-sub-suc n j, suc-sub-suc j n, add-suc i j, ← suc-add i j) (cells-drop (suc i) n j es)
+  cells_drop i zero j es = rw (zero-sub j, sub-zero j)
+  cells_drop i (suc n) zero es = rw (add-zero i, zero-sub (suc n), sub-zero (suc n))
+  cells_drop i (suc n) (suc j) es = rw (suc-sub-suc n j, suc-sub-suc j n, add-suc i j, ← suc-add i j) (cells_drop (suc i) n j es)
 
-  cells-gathered : (i n : ℕ) (es : List Entry) → gather (cells r c v i n ++ es) ≡ beforeAll (cellsFrom (λ j. cellOf r c j (v j)) i n) (gather es)
+  cells_gathered : (i n : ℕ) (es : List Entry) → gather (cells r c v i n ++ es) ≡ before_all (cells_from (λ j. cell_of r c j (v j)) i n) (gather es)
   unfolding cells gather
-  cells-gathered i zero es = sym (none_before (gather es))
-  cells-gathered i (suc n) es = ap (before (cellOf r c i (v i))) (cells-gathered (suc i) n es) ∙ one-before _ _ (gather es)
+  cells_gathered i zero es = sym (none_before (gather es))
+  cells_gathered i (suc n) es = ap (before (cell_of r c i (v i))) (cells_gathered (suc i) n es) ∙ one_before _ _ (gather es)
 
 -- what is gathered of the field of column c by its plan f, and of the entries es after it
-abbrev pub gatherBy : List ℕ → ℕ → FieldPlan → List Entry → Gathered
-gatherBy a c f es = cond (isOutside f) (outside c) (beforeAll (cellsFrom (plannedCell a f) 0 f.n) (gather (drop f.skip es)))
+abbrev pub gather_by : List ℕ → ℕ → FieldPlan → List Entry → Gathered
+gather_by a c f es = cond (is_outside f) (outside c) (before_all (cells_from (planned_cell a f) 0 f.n) (gather (drop f.skip es)))
 
-none-left : (j : ℕ) → 1 - suc j ≡ 0
-none-left j = omega arith
+none_left : (j : ℕ) → 1 - suc j ≡ 0
+none_left j = omega arith
 
 one_less : (j : ℕ) → suc j - 1 ≡ j
 one_less j = omega arith
 
 -- a field of one cell
-one-gathered : (f : ℕ → Cell) (skip : ℕ) (es : List Entry) → gather (drop skip (E.Cell (f 0) ∷ es)) ≡ beforeAll (cellsFrom (λ i. f (skip + i)) 0 (1 - skip)) (gather (drop (skip - 1) es))
+one_gathered : (f : ℕ → Cell) (skip : ℕ) (es : List Entry) → gather (drop skip (E.Cell (f 0) ∷ es)) ≡ before_all (cells_from (λ i. f (skip + i)) 0 (1 - skip)) (gather (drop (skip - 1) es))
 unfolding gather
-one-gathered f zero es = ap (before (f 0)) (sym (none_before (gather es))) ∙ one-before (f 0) [] (gather es)
-one-gathered f (suc j) es = rw (none-left j, one_less j, none_before (gather (drop j es)))
+one_gathered f zero es = ap (before (f 0)) (sym (none_before (gather es))) ∙ one_before (f 0) [] (gather es)
+one_gathered f (suc j) es = rw (none_left j, one_less j, none_before (gather (drop j es)))
 
 -- a descriptor's value is that of the two numbers at its place
 abbrev DescriptorIs : List ℕ → ℕ → FieldKind → DataValue → Type 0
@@ -122,70 +122,70 @@ Described a p kind (F.Items ty at n) = Unit {0}
 Described a p kind (F.Descriptor v) = DescriptorIs a p kind v
 Described a p kind F.OutsideHeap = Unit {0}
 
-array-described : (a : List ℕ) (p : ℕ) (kind : FieldKind) (theap end : ℕ) (ty : VariableArrayTy) (n o : ℕ) → Described a p kind (array theap end ty n o)
+array_described : (a : List ℕ) (p : ℕ) (kind : FieldKind) (theap end : ℕ) (ty : VariableArrayTy) (n o : ℕ) → Described a p kind (array theap end ty n o)
 unfolding array
-array-described a p kind theap end ty n o =
-    by-test (Described a p kind) (eqb n 0) (λ t. tt)
-    (λ t. by-test (Described a p kind) (leb (theap + o + items ty n * width ty) end) (λ u. tt) (λ u. tt))
+array_described a p kind theap end ty n o =
+    by_test (Described a p kind) (eqb n 0) (λ t. tt)
+    (λ t. by_test (Described a p kind) (leb (theap + o + items ty n * width ty) end) (λ u. tt) (λ u. tt))
 
-described : (a : List ℕ) (p : ℕ) (f : TFormType) (n : ℕ) (heap : Bool) (theap end : ℕ) → Described a p (descriptorKind f) (fieldBy a p f n heap theap end)
+described : (a : List ℕ) (p : ℕ) (f : TFormType) (n : ℕ) (heap : Bool) (theap end : ℕ) → Described a p (descriptor_kind f) (field_by a p f n heap theap end)
 unfolding field32 field64
 described a p (T.Items ty) n heap theap end = tt
 described a p (T.P ty) n heap theap end =
-    by-test (Described a p K.Descriptor32) (eqb n 0) (λ z. tt)
+    by_test (Described a p K.Descriptor32) (eqb n 0) (λ z. tt)
     (λ z.
-    by-test (Described a p K.Descriptor32) heap (λ t. array-described a p K.Descriptor32 theap end ty _ _) (λ t. refl))
+    by_test (Described a p K.Descriptor32) heap (λ t. array_described a p K.Descriptor32 theap end ty _ _) (λ t. refl))
 described a p (T.Q ty) n heap theap end =
-    by-test (Described a p K.Descriptor64) (eqb n 0) (λ z. tt)
+    by_test (Described a p K.Descriptor64) (eqb n 0) (λ z. tt)
     (λ z.
-    by-test (Described a p K.Descriptor64) heap (λ t. array-described a p K.Descriptor64 theap end ty _ _) (λ t. refl))
+    by_test (Described a p K.Descriptor64) heap (λ t. array_described a p K.Descriptor64 theap end ty _ _) (λ t. refl))
 
-first-place : (p : ℕ) (ty : VariableArrayTy) → p + 0 * width ty ≡ p
-first-place p ty = omega arith
+first_place : (p : ℕ) (ty : VariableArrayTy) → p + 0 * width ty ≡ p
+first_place p ty = omega arith
 
-descriptor-gathered : (column : Column) (a : List ℕ) (r c p : ℕ) (kind : FieldKind) (v : DataValue) → DescriptorIs a p kind v → (skip : ℕ) (es : List Entry)
-    → gather (drop skip (E.Cell (cellOf r c 0 v) ∷ es)) ≡ gatherBy a c (planOf r c column kind p skip (F.Descriptor v)) es
-descriptor-gathered column a r c p K.Items v d skip es = absurd d
-descriptor-gathered column a r c p K.Descriptor32 v d skip es =
-    let e : cellOf r c 0 v ≡ cellIn column a r c K.Descriptor32 L p 0 = simp (first-place p L, d) in
-    rw e (one-gathered (cellIn column a r c K.Descriptor32 L p) skip es)
-descriptor-gathered column a r c p K.Descriptor64 v d skip es =
-    let e : cellOf r c 0 v ≡ cellIn column a r c K.Descriptor64 L p 0 = simp (first-place p L, d) in
-    rw e (one-gathered (cellIn column a r c K.Descriptor64 L p) skip es)
-descriptor-gathered column a r c p K.OutsideHeap v d skip es = absurd d
+descriptor_gathered : (column : Column) (a : List ℕ) (r c p : ℕ) (kind : FieldKind) (v : DataValue) → DescriptorIs a p kind v → (skip : ℕ) (es : List Entry)
+    → gather (drop skip (E.Cell (cell_of r c 0 v) ∷ es)) ≡ gather_by a c (plan_of r c column kind p skip (F.Descriptor v)) es
+descriptor_gathered column a r c p K.Items v d skip es = absurd d
+descriptor_gathered column a r c p K.Descriptor32 v d skip es =
+    let e : cell_of r c 0 v ≡ cell_in column a r c K.Descriptor32 L p 0 = simp (first_place p L, d) in
+    rw e (one_gathered (cell_in column a r c K.Descriptor32 L p) skip es)
+descriptor_gathered column a r c p K.Descriptor64 v d skip es =
+    let e : cell_of r c 0 v ≡ cell_in column a r c K.Descriptor64 L p 0 = simp (first_place p L, d) in
+    rw e (one_gathered (cell_in column a r c K.Descriptor64 L p) skip es)
+descriptor_gathered column a r c p K.OutsideHeap v d skip es = absurd d
 
-field-gathered : (column : Column) (a : List ℕ) (r c p : ℕ) (kind : FieldKind) (f : Field) → Described a p kind f → (skip : ℕ) (es : List Entry)
-    → gather (drop skip (entriesOf column a r c f ++ es)) ≡ gatherBy a c (planOf r c column kind p skip f) es
-unfolding entriesOf gather
-field-gathered column a r c p kind (F.Items ty at n) d skip es =
-    ap gather (cells-drop r c (itemAt column a ty at) 0 n skip es)
-    ∙ cells-gathered r c (itemAt column a ty at) (0 + skip) (n - skip) (drop (skip - n) es)
-    ∙ ap (λ (xs : List Cell). beforeAll xs (gather (drop (skip - n) es)))
-    (rw (zero-add skip, cells-later (cellIn column a r c K.Items ty at) skip 0 (n - skip), add-zero skip))
-field-gathered column a r c p kind (F.Descriptor v) d skip es = descriptor-gathered column a r c p kind v d skip es
-field-gathered column a r c p kind F.OutsideHeap d zero es = refl
-field-gathered column a r c p kind F.OutsideHeap d (suc j) es = rw (none-left j, one_less j, none_before (gather (drop j es)))
+field_gathered : (column : Column) (a : List ℕ) (r c p : ℕ) (kind : FieldKind) (f : Field) → Described a p kind f → (skip : ℕ) (es : List Entry)
+    → gather (drop skip (entries_of column a r c f ++ es)) ≡ gather_by a c (plan_of r c column kind p skip f) es
+unfolding entries_of gather
+field_gathered column a r c p kind (F.Items ty at n) d skip es =
+    ap gather (cells_drop r c (item_at column a ty at) 0 n skip es)
+    ∙ cells_gathered r c (item_at column a ty at) (0 + skip) (n - skip) (drop (skip - n) es)
+    ∙ ap (λ (xs : List Cell). before_all xs (gather (drop (skip - n) es)))
+    (rw (zero-add skip, cells_later (cell_in column a r c K.Items ty at) skip 0 (n - skip), add-zero skip))
+field_gathered column a r c p kind (F.Descriptor v) d skip es = descriptor_gathered column a r c p kind v d skip es
+field_gathered column a r c p kind F.OutsideHeap d zero es = refl
+field_gathered column a r c p kind F.OutsideHeap d (suc j) es = rw (none_left j, one_less j, none_before (gather (drop j es)))
 
-field-n : (r c : ℕ) (column : Column) (kind : FieldKind) (p skip : ℕ) (f : Field) → (planOf r c column kind p skip f).n ≡ sizeOf f - skip
-field-n r c column kind p skip (F.Items ty at n) = refl
-field-n r c column kind p skip (F.Descriptor v) = refl
-field-n r c column kind p skip F.OutsideHeap = refl
+field_n : (r c : ℕ) (column : Column) (kind : FieldKind) (p skip : ℕ) (f : Field) → (plan_of r c column kind p skip f).n ≡ size_of f - skip
+field_n r c column kind p skip (F.Items ty at n) = refl
+field_n r c column kind p skip (F.Descriptor v) = refl
+field_n r c column kind p skip F.OutsideHeap = refl
 
 -- ---- and of a column
 
 module _ (l : BinTable) (a : List ℕ) (c : TableData) (s : Stepped) where
   -- the plan of column k, where `skip` entries are still to be passed
-  abbrev pub fieldOn : ℕ → ℕ → FieldPlan
-  fieldOn k skip = planAt l.columns a (planFor l c s) k skip
+  abbrev pub field_on : ℕ → ℕ → FieldPlan
+  field_on k skip = plan_at l.columns a (plan_for l c s) k skip
 
-  pub plan-n : (k skip : ℕ) → (fieldOn k skip).n ≡ columnSize l a c.choice c.heap c.row k - skip
-  unfolding fieldPlan fieldOf
-  plan-n k skip = by-both (λ (f : FieldPlan) (n : ℕ). f.n ≡ n - skip) (chosen c.choice k) (λ t. field-n _ _ _ _ _ skip (fieldOf l a c.heap c.row k)) (λ t. refl)
+  pub plan_n : (k skip : ℕ) → (field_on k skip).n ≡ column_size l a c.choice c.heap c.row k - skip
+  unfolding field_plan field_of
+  plan_n k skip = by_both (λ (f : FieldPlan) (n : ℕ). f.n ≡ n - skip) (chosen c.choice k) (λ t. field_n _ _ _ _ _ skip (field_of l a c.heap c.row k)) (λ t. refl)
 
-  pub column-gathered : (k skip : ℕ) (es : List Entry)
-      → gather (drop skip (columnEntries l a c.choice c.heap c.row k ++ es)) ≡ gatherBy a k (fieldOn k skip) es
-  unfolding columnEntries fieldPlan fieldOf field gather
-  column-gathered k skip es =
-      by-both (λ (xs : List Entry) (f : FieldPlan). gather (drop skip (xs ++ es)) ≡ gatherBy a k f es) (chosen c.choice k)
-      (λ t. field-gathered (columnOf l k) a c.row k _ _ _ (described a _ (columnOf l k).form _ c.heap _ _) skip es)
+  pub column_gathered : (k skip : ℕ) (es : List Entry)
+      → gather (drop skip (column_entries l a c.choice c.heap c.row k ++ es)) ≡ gather_by a k (field_on k skip) es
+  unfolding column_entries field_plan field_of field gather
+  column_gathered k skip es =
+      by_both (λ (xs : List Entry) (f : FieldPlan). gather (drop skip (xs ++ es)) ≡ gather_by a k f es) (chosen c.choice k)
+      (λ t. field_gathered (column_of l k) a c.row k _ _ _ (described a _ (column_of l k).form _ c.heap _ _) skip es)
       (λ t. rw (zero-sub skip, sub-zero skip, none_before (gather (drop skip es))))

@@ -17,9 +17,9 @@ use Rattle.layout.specs.declared.BinTable.{BinTable}
 use Rattle.cell.specs.declared.Cell.{Cell}
 use Rattle.walk.specs.declared.TableData.{TableData}
 use Rattle.walk.specs.declared.Stepped.{Stepped}
-use Rattle.walk.specs.Walk.{readRow}
-use Rattle.walk.specs.Step.{Result, cursorStep, resultOf}
-use Rattle.row.specs.Owned.{ownRead}
+use Rattle.walk.specs.Walk.{read_row}
+use Rattle.walk.specs.Step.{Result, cursor_step, result_of}
+use Rattle.row.specs.Owned.{own_read}
 
 module _ {X : Type 0} (u : X) where
   pub all_same : (n i : ℕ) → get_or (replicate n u) i u ≡ u
@@ -62,20 +62,20 @@ module _ {X : Type 0} (u : X) where
     looked zs k l = seen zs 512 (513 - min n 512) k (omega (arith, l, long, min-le_right n 512))
 
 module _ (l : BinTable) (a : List ℕ) (c : TableData) (u : Cell) (n m : ℕ) (at : m ≡ min n 512) (s : Stepped) (zs : List Cell)
-    (e : resultOf s zs ≡ cursorStep l a c (readRow (take m (made u)))) where
-  read : resultOf s zs ≡ ownRead l a c u n
+    (e : result_of s zs ≡ cursor_step l a c (read_row (take m (made u)))) where
+  read : result_of s zs ≡ own_read l a c u n
   read = rw (at, lent u n) at e
 
-  list_is : zs ≡ (ownRead l a c u n).list
+  list_is : zs ≡ (own_read l a c u n).list
   list_is = ap (λ (r : Result). r.list) read
 
-  pub own-step : resultOf s (ownRead l a c u n).list ≡ ownRead l a c u n
-  own-step = subst (λ (ys : List Cell). resultOf s ys ≡ ownRead l a c u n) list_is read
+  pub own_step : result_of s (own_read l a c u n).list ≡ own_read l a c u n
+  own_step = subst (λ (ys : List Cell). result_of s ys ≡ own_read l a c u n) list_is read
 
   -- whatever stands for a place outside
-  pub own-cell : (d : Cell) (k i : ℕ) → i ≡ min k 512 → length zs ≡ length (take m (made u))
-      → get_or (zs ++ drop m (made u)) i d ≡ get_or (ownRead l a c u n).list k u
-  own-cell d k i w q =
+  pub own_cell : (d : Cell) (k i : ℕ) → i ≡ min k 512 → length zs ≡ length (take m (made u))
+      → get_or (zs ++ drop m (made u)) i d ≡ get_or (own_read l a c u n).list k u
+  own_cell d k i w q =
       let f : length zs ≡ length (front u n) = rw (at, lent u n) at q in
       rw (at, left u n, w)
       (get_or_default (zs ++ back u n) (min k 512) d u (inside u n zs k f) ∙ looked u n zs k f ∙ ap (λ (ys : List Cell). get_or ys k u) list_is)

@@ -4,17 +4,17 @@ use Rattle.std.specs.Prelude.{ℕ, min, List, replicate}
 use Rattle.layout.specs.declared.BinTable.{BinTable}
 use Rattle.cell.specs.declared.Cell.{Cell}
 use Rattle.walk.specs.declared.TableData.{TableData}
-use Rattle.walk.specs.Walk.{readRow}
-use Rattle.walk.specs.Step.{Result, cursorStep}
+use Rattle.walk.specs.Walk.{read_row}
+use Rattle.walk.specs.Step.{Result, cursor_step}
 
 -- the most cells that it takes
-abbrev pub listLimit : ℕ
-listLimit = 512
+abbrev pub list_limit : ℕ
+list_limit = 512
 
 -- n times one cell, up to the limit
-abbrev pub ownList : Cell → ℕ → List Cell
-ownList filler n = replicate (min n listLimit) filler
+abbrev pub own_list : Cell → ℕ → List Cell
+own_list filler n = replicate (min n list_limit) filler
 
 -- a row read into that list
-abbrev pub ownRead : BinTable → List ℕ → TableData → Cell → ℕ → Result
-ownRead l a cursor filler n = cursorStep l a cursor (readRow (ownList filler n))
+abbrev pub own_read : BinTable → List ℕ → TableData → Cell → ℕ → Result
+own_read l a cursor filler n = cursor_step l a cursor (read_row (own_list filler n))

@@ -3,52 +3,52 @@
 use Rattle.std.specs.Prelude.{ℕ, ◌≡◌, Bool, List, [], ◌∷◌, map}
 use Rattle.layout.specs.declared.BinTable.{BinTable}
 use Rattle.refusal.specs.declared.Check.TheVariants.{Passed}
-use Rattle.refusal.specs.Refusal.{outcomeOf}
+use Rattle.refusal.specs.Refusal.{outcome_of}
 use Rattle.bintable.specs.declared.Parsed.{Parsed}
-use Rattle.bintable.specs.Entry.{allChecks, entry, layoutIn}
+use Rattle.bintable.specs.Entry.{all_checks, entry, layout_in}
 use Rattle.cell.specs.declared.Cell.{Cell}
 use Rattle.walk.specs.declared.TableData.{TableData}
 use Rattle.walk.specs.declared.Answer.{Answer}
 use Rattle.walk.specs.declared.Opened.{Opened}
 use Rattle.walk.specs.declared.Stepped.{Stepped}
-use Rattle.walk.specs.Walk.{Step, readCell, readRow, seek}
-use Rattle.walk.specs.Step.{Selection, choiceOf, openWith, openingOf, Result, withCursor, cursorStep, plainWalk, resultOf, stepped}
+use Rattle.walk.specs.Walk.{Step, read_cell, read_row, seek}
+use Rattle.walk.specs.Step.{Selection, choice_of, open_with, opening_of, Result, with_cursor, cursor_step, plain_walk, result_of, stepped}
 use Rattle.walk.specs.Agree.{Counted}
 
 -- ---- what the calls ensure. proofs/Ensured shows that each of these is the call's contract
 
 -- bintable::parse, of its check and of its layout
 abbrev pub CheckEnsures : List ℕ → List ℕ → Parsed → Type 0
-CheckEnsures h a r = outcomeOf r.check ≡ allChecks h a
+CheckEnsures h a r = outcome_of r.check ≡ all_checks h a
 
 abbrev pub LayoutEnsures : List ℕ → List ℕ → Parsed → Type 0
-LayoutEnsures h a r = r.layout ≡ layoutIn (entry h a)
+LayoutEnsures h a r = r.layout ≡ layout_in (entry h a)
 
 -- table::open, with all columns, and table::select_fields, with those of a list
 abbrev pub OpenEnsures : BinTable → List ℕ → Selection → Bool → Opened → Type 0
-OpenEnsures l a sel heap r = openingOf r ≡ openWith l a sel heap
+OpenEnsures l a sel heap r = opening_of r ≡ open_with l a sel heap
 
 -- table::next
 abbrev pub NextEnsures : BinTable → List ℕ → TableData → Stepped → Type 0
-NextEnsures l a cursor r = resultOf r [] ≡ cursorStep l a cursor readCell
+NextEnsures l a cursor r = result_of r [] ≡ cursor_step l a cursor read_cell
 
 -- row::read_row, with the list before and after it
 abbrev pub RowEnsures : BinTable → List ℕ → TableData → List Cell → List Cell → Stepped → Type 0
-RowEnsures l a cursor list after r = resultOf r after ≡ cursorStep l a cursor (readRow list)
+RowEnsures l a cursor list after r = result_of r after ≡ cursor_step l a cursor (read_row list)
 
 -- table::seek_to_row
 abbrev pub SeekEnsures : BinTable → List ℕ → TableData → ℕ → Stepped → Type 0
-SeekEnsures l a cursor row r = resultOf r [] ≡ cursorStep l a cursor (seek row)
+SeekEnsures l a cursor row r = result_of r [] ≡ cursor_step l a cursor (seek row)
 
 -- row::next, row::next_row and row::seek_to_row, which leave the lent cursor as `moved`
 abbrev pub LentNextEnsures : BinTable → List ℕ → TableData → TableData → Answer → Type 0
-LentNextEnsures l a cursor moved r = resultOf (stepped moved r) [] ≡ cursorStep l a cursor readCell
+LentNextEnsures l a cursor moved r = result_of (stepped moved r) [] ≡ cursor_step l a cursor read_cell
 
 abbrev pub LentRowEnsures : BinTable → List ℕ → TableData → TableData → List Cell → List Cell → Answer → Type 0
-LentRowEnsures l a cursor moved list after r = resultOf (stepped moved r) after ≡ cursorStep l a cursor (readRow list)
+LentRowEnsures l a cursor moved list after r = result_of (stepped moved r) after ≡ cursor_step l a cursor (read_row list)
 
 abbrev pub LentSeekEnsures : BinTable → List ℕ → TableData → TableData → ℕ → Answer → Type 0
-LentSeekEnsures l a cursor moved row r = resultOf (stepped moved r) [] ≡ cursorStep l a cursor (seek row)
+LentSeekEnsures l a cursor moved row r = result_of (stepped moved r) [] ≡ cursor_step l a cursor (seek row)
 
 -- ---- runs
 
@@ -59,45 +59,45 @@ pub data Ran (l : BinTable) (a : List ℕ) : TableData → List Step → List Re
   next : {cursor : TableData} {xs : List Step} {os : List Result} (r : Stepped)
       → NextEnsures l a cursor r
       → Ran l a r.cursor xs os
-      → Ran l a cursor (readCell ∷ xs) (resultOf r [] ∷ os)
-  read-row : {cursor : TableData} {xs : List Step} {os : List Result} (list after : List Cell) (r : Stepped)
+      → Ran l a cursor (read_cell ∷ xs) (result_of r [] ∷ os)
+  read_row_by_value : {cursor : TableData} {xs : List Step} {os : List Result} (list after : List Cell) (r : Stepped)
       → RowEnsures l a cursor list after r
       → Ran l a r.cursor xs os
-      → Ran l a cursor (readRow list ∷ xs) (resultOf r after ∷ os)
-  seek-to-row : {cursor : TableData} {xs : List Step} {os : List Result} (row : ℕ) (r : Stepped)
+      → Ran l a cursor (read_row list ∷ xs) (result_of r after ∷ os)
+  seek_to_row : {cursor : TableData} {xs : List Step} {os : List Result} (row : ℕ) (r : Stepped)
       → SeekEnsures l a cursor row r
       → Ran l a r.cursor xs os
-      → Ran l a cursor (seek row ∷ xs) (resultOf r [] ∷ os)
-  lent-next : {cursor : TableData} {xs : List Step} {os : List Result} (moved : TableData) (r : Answer)
+      → Ran l a cursor (seek row ∷ xs) (result_of r [] ∷ os)
+  lent_next : {cursor : TableData} {xs : List Step} {os : List Result} (moved : TableData) (r : Answer)
       → LentNextEnsures l a cursor moved r
       → Ran l a moved xs os
-      → Ran l a cursor (readCell ∷ xs) (resultOf (stepped moved r) [] ∷ os)
-  lent-next-row : {cursor : TableData} {xs : List Step} {os : List Result} (moved : TableData) (list after : List Cell) (r : Answer)
+      → Ran l a cursor (read_cell ∷ xs) (result_of (stepped moved r) [] ∷ os)
+  lent_next_row : {cursor : TableData} {xs : List Step} {os : List Result} (moved : TableData) (list after : List Cell) (r : Answer)
       → LentRowEnsures l a cursor moved list after r
       → Ran l a moved xs os
-      → Ran l a cursor (readRow list ∷ xs) (resultOf (stepped moved r) after ∷ os)
-  lent-seek-to-row : {cursor : TableData} {xs : List Step} {os : List Result} (moved : TableData) (row : ℕ) (r : Answer)
+      → Ran l a cursor (read_row list ∷ xs) (result_of (stepped moved r) after ∷ os)
+  lent_seek_to_row : {cursor : TableData} {xs : List Step} {os : List Result} (moved : TableData) (row : ℕ) (r : Answer)
       → LentSeekEnsures l a cursor moved row r
       → Ran l a moved xs os
-      → Ran l a cursor (seek row ∷ xs) (resultOf (stepped moved r) [] ∷ os)
+      → Ran l a cursor (seek row ∷ xs) (result_of (stepped moved r) [] ∷ os)
 
 -- what holds of the results os of the steps xs on the layout la and the area a, and os' of the same steps on lb and b
 pub record SameRuns (la lb : BinTable) (a b : List ℕ) (sel : Selection) (heap : Bool) (xs : List Step) (os os' : List Result) : Type 0 where
   -- answers, refusals, counts, cursors and lists are the same at each step
   pub same : os ≡ os'
   -- they are the plain walk's, which is fed nothing from a cursor
-  pub walked-a : os ≡ map (withCursor (choiceOf la sel) heap) (plainWalk la a (choiceOf la sel) heap xs)
-  pub walked-b : os' ≡ map (withCursor (choiceOf lb sel) heap) (plainWalk lb b (choiceOf lb sel) heap xs)
+  pub walked_a : os ≡ map (with_cursor (choice_of la sel) heap) (plain_walk la a (choice_of la sel) heap xs)
+  pub walked_b : os' ≡ map (with_cursor (choice_of lb sel) heap) (plain_walk lb b (choice_of lb sel) heap xs)
   -- after each step the count is the cells handed out so far, up to the stop
-  pub counted-a : Counted 0 xs os
-  pub counted-b : Counted 0 xs os'
+  pub counted_a : Counted 0 xs os
+  pub counted_b : Counted 0 xs os'
 
 -- the layouts la and lb that the entry returned for one header, with a and with b, and what opening returned on each
 pub record Isolated (la lb : BinTable) (a b : List ℕ) (sel : Selection) (heap : Bool) (oa ob : Opened) : Type 0 where
   -- the layouts are the same
   pub layouts : la ≡ lb
   -- both are opened, with the same cursor, or both are refused alike
-  pub openings : openingOf oa ≡ openingOf ob
+  pub openings : opening_of oa ≡ opening_of ob
   -- where they are opened, whatever the calls returned and left for a list of steps
   pub runs : oa.check ≡ Passed → (xs : List Step) (os os' : List Result) → Ran la a oa.cursor xs os → Ran lb b ob.cursor xs os'
       → SameRuns la lb a b sel heap xs os os'

@@ -1,6 +1,6 @@
 // The loops that store a row's cells, by its plan.
 ghost use Rattle.std.specs.Prelude.{◌≡◌, ◌+◌, ◌≤◌, length};
-ghost use Rattle.row.specs.Plan.{entryValue, plannedCell, PlaceFits, PlanOk, storedAt, filled, RowFits};
+ghost use Rattle.row.specs.Plan.{entry_value, planned_cell, PlaceFits, PlanOk, stored_at, filled, RowFits};
 
 use super::plan;
 use super::plan::{FieldKind, FieldPlan, RowPlan};
@@ -10,7 +10,7 @@ use tform::VariableArrayTy;
 
 // The value of an entry of a field at a place.
 fn entry(area: &[u8], at: u64, kind: FieldKind, ty: VariableArrayTy, column: Column) -> DataValue
-    ensures { result ≡ entryValue column area.now kind ty at }
+    ensures { result ≡ entry_value column area.now kind ty at }
 {
     match kind {
         FieldKind::Items => cell::read_item(area, at, ty, column),
@@ -38,7 +38,7 @@ fn entry(area: &[u8], at: u64, kind: FieldKind, ty: VariableArrayTy, column: Col
 // Cell i of the plan of a field. `fill_field` is its only caller, so that it is inlined there.
 fn planned_cell(area: &[u8], plan: FieldPlan, i: usize) -> Cell
     requires { PlaceFits plan i }
-    ensures { result ≡ plannedCell area.now plan i }
+    ensures { result ≡ planned_cell area.now plan i }
 {
     let kind = plan.kind;
     let ty = plan.ty;
@@ -57,7 +57,7 @@ fn planned_cell(area: &[u8], plan: FieldPlan, i: usize) -> Cell
 // The cells of a field, into the list from `at` on.
 fn fill_field(list: &mut [Cell], at: usize, area: &[u8], plan: FieldPlan)
     requires { (at + plan.n ≤ length list.old) × PlanOk plan }
-    ensures { list.new ≡ storedAt (plannedCell area.now plan) at plan.n list.old }
+    ensures { list.new ≡ stored_at (planned_cell area.now plan) at plan.n list.old }
 {
     let mut i = 0;
     while i < plan.n {

@@ -6,8 +6,8 @@ pub mod owners;
 mod plan;
 
 ghost use Rattle.std.specs.Prelude.{◌≡◌, []};
-ghost use Rattle.walk.specs.Walk.{readCell, readRow, seek};
-ghost use Rattle.walk.specs.Step.{cursorStep, resultOf, stepped};
+ghost use Rattle.walk.specs.Walk.{read_cell, read_row, seek};
+ghost use Rattle.walk.specs.Step.{cursor_step, result_of, stepped};
 
 use cell::Cell;
 use layout::BinTable;
@@ -17,7 +17,7 @@ use walk::{Answer, Stepped, TableData};
 // number of cells, the end, or a refusal: 10 as for every step, 13 at an array outside the heap, 14 if the list is
 // too short. A refusal returns the cursor that it got and leaves the list as it was.
 pub fn read_row(layout: BinTable, area: &[u8], cursor: TableData, list: &mut [Cell]) -> Stepped
-    ensures { resultOf result list.new ≡ cursorStep layout area.now cursor (readRow list.old) }
+    ensures { result_of result list.new ≡ cursor_step layout area.now cursor (read_row list.old) }
 {
     let plan = plan::row_plan(layout, area, cursor, list.len());
     let columns = plan::columns(layout);
@@ -27,7 +27,7 @@ pub fn read_row(layout: BinTable, area: &[u8], cursor: TableData, list: &mut [Ce
 
 // The cell read over a lent cursor, which is moved for its owner.
 pub fn next(cursor: &mut TableData, layout: BinTable, area: &[u8]) -> Answer
-    ensures { resultOf (stepped cursor.new result) [] ≡ cursorStep layout area.now cursor.old readCell }
+    ensures { result_of (stepped cursor.new result) [] ≡ cursor_step layout area.now cursor.old read_cell }
 {
     let out = table::next(layout, area, *cursor);
     *cursor = out.cursor;
@@ -36,7 +36,7 @@ pub fn next(cursor: &mut TableData, layout: BinTable, area: &[u8]) -> Answer
 
 // The row read over a lent cursor.
 pub fn next_row(cursor: &mut TableData, layout: BinTable, area: &[u8], list: &mut [Cell]) -> Answer
-    ensures { resultOf (stepped cursor.new result) list.new ≡ cursorStep layout area.now cursor.old (readRow list.old) }
+    ensures { result_of (stepped cursor.new result) list.new ≡ cursor_step layout area.now cursor.old (read_row list.old) }
 {
     let out = read_row(layout, area, *cursor, list);
     *cursor = out.cursor;
@@ -45,7 +45,7 @@ pub fn next_row(cursor: &mut TableData, layout: BinTable, area: &[u8], list: &mu
 
 // The seek over a lent cursor.
 pub fn seek_to_row(cursor: &mut TableData, layout: BinTable, area: &[u8], row: usize) -> Answer
-    ensures { resultOf (stepped cursor.new result) [] ≡ cursorStep layout area.now cursor.old (seek row) }
+    ensures { result_of (stepped cursor.new result) [] ≡ cursor_step layout area.now cursor.old (seek row) }
 {
     let out = table::seek_to_row(layout, area, *cursor, row);
     *cursor = out.cursor;

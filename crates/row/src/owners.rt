@@ -1,9 +1,9 @@
 // Owners of a cursor and of a list, which the calls are lent. Their own parameters are plain, so that a program
 // above needs no reference to a cursor or to cells.
 ghost use Rattle.std.specs.Prelude.{◌≡◌, [], get_or, min};
-ghost use Rattle.walk.specs.Walk.{readCell, seek};
-ghost use Rattle.walk.specs.Step.{cursorStep, resultOf};
-ghost use Rattle.row.specs.Owned.{ownRead};
+ghost use Rattle.walk.specs.Walk.{read_cell, seek};
+ghost use Rattle.walk.specs.Step.{cursor_step, result_of};
+ghost use Rattle.row.specs.Owned.{own_read};
 
 use cell::Cell;
 use layout::BinTable;
@@ -29,7 +29,7 @@ fn at_most(n: usize, limit: usize) -> usize
 
 // The cell read, with a cursor of its own that is lent for it.
 pub fn next(layout: BinTable, area: &[u8], cursor: TableData) -> Stepped
-    ensures { resultOf result [] ≡ cursorStep layout area.now cursor readCell }
+    ensures { result_of result [] ≡ cursor_step layout area.now cursor read_cell }
 {
     let mut own = cursor;
     let answer = super::next(&mut own, layout, area);
@@ -41,7 +41,7 @@ pub fn next(layout: BinTable, area: &[u8], cursor: TableData) -> Stepped
 
 // The seek, likewise.
 pub fn seek_to_row(layout: BinTable, area: &[u8], cursor: TableData, row: usize) -> Stepped
-    ensures { resultOf result [] ≡ cursorStep layout area.now cursor (seek row) }
+    ensures { result_of result [] ≡ cursor_step layout area.now cursor (seek row) }
 {
     let mut own = cursor;
     let answer = super::seek_to_row(&mut own, layout, area, row);
@@ -61,9 +61,9 @@ pub fn row_cell(
     n: usize,
     k: usize,
 ) -> RowCell
-    ensures step { resultOf result.stepped (ownRead layout area.now cursor filler n).list
-        ≡ ownRead layout area.now cursor filler n }
-    ensures cell { result.cell ≡ get_or (ownRead layout area.now cursor filler n).list k filler }
+    ensures step { result_of result.stepped (own_read layout area.now cursor filler n).list
+        ≡ own_read layout area.now cursor filler n }
+    ensures cell { result.cell ≡ get_or (own_read layout area.now cursor filler n).list k filler }
 {
     let mut own = cursor;
     // One cell more than is lent at most, so that there is one that is not stored to.

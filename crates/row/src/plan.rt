@@ -1,11 +1,11 @@
 // What a row read does, decided before it stores a cell: its answer, the cursor after it, and which cells each
 // field gives.
 ghost use Rattle.std.specs.Prelude.{◌≡◌, true, ◌+◌, ◌<◌, ◌^◌};
-ghost use Rattle.layout.specs.Layout.{naxis2Limit, layoutOk};
-ghost use Rattle.walk.specs.Plain.{chosen, rowEntries};
+ghost use Rattle.layout.specs.Layout.{naxis2_limit, layout_ok};
+ghost use Rattle.walk.specs.Plain.{chosen, row_entries};
 ghost use Rattle.walk.specs.Walk.{rest};
-ghost use Rattle.walk.specs.Step.{fits, stateOf};
-ghost use Rattle.row.specs.Plan.{fieldFrom, descriptorKind, planOf, fieldPlan, isOutside, leftOf, planFor, noPlan, nextRow, restPlan, rowPlan};
+ghost use Rattle.walk.specs.Step.{fits, state_of};
+ghost use Rattle.row.specs.Plan.{field_from, descriptor_kind, plan_of, field_plan, is_outside, left_of, plan_for, no_plan, next_row, rest_plan, row_plan};
 
 use cell::Field;
 use layout::{BinTable, Column, TFIELDS_LIMIT};
@@ -78,7 +78,7 @@ fn field_from(
     size: u64,
     skip: u64,
 ) -> FieldPlan
-    ensures { result ≡ fieldFrom row c column kind ty at size skip }
+    ensures { result ≡ field_from row c column kind ty at size skip }
 {
     if skip < size {
         return FieldPlan {
@@ -116,7 +116,7 @@ fn descriptor_plan(
     field: Field,
     skip: u64,
 ) -> FieldPlan
-    ensures { result ≡ planOf row c column kind at skip field }
+    ensures { result ≡ plan_of row c column kind at skip field }
 {
     match field {
         Field::Items { ty, at: start, n } => {
@@ -133,7 +133,7 @@ fn descriptor_plan(
 // The plan of the field of column c, which is chosen, where `skip` entries are still to be passed.
 pub fn field_plan(area: &[u8], plan: RowPlan, column: Column, c: usize, skip: u64) -> FieldPlan
     requires { (chosen plan.choice c ≡ true) × (plan.start + column.start < 2 ^ 64) }
-    ensures { result ≡ fieldPlan area.now plan column c skip }
+    ensures { result ≡ field_plan area.now plan column c skip }
 {
     let at = plan.start + column.start;
     let form = column.form;
@@ -157,7 +157,7 @@ pub fn field_plan(area: &[u8], plan: RowPlan, column: Column, c: usize, skip: u6
 
 // The kind of a form's descriptor; a form of items has none.
 fn descriptor_kind(form: TFormType) -> FieldKind
-    ensures { result ≡ descriptorKind form }
+    ensures { result ≡ descriptor_kind form }
 {
     match form {
         TFormType::Items(_) => FieldKind::OutsideHeap,
@@ -170,7 +170,7 @@ fn descriptor_kind(form: TFormType) -> FieldKind
 // that stores, and is compiled into it.
 fn judged_plan(area: &[u8], plan: RowPlan, column: Column, c: usize, skip: u64) -> FieldPlan
     requires { (chosen plan.choice c ≡ true) × (plan.start + column.start < 2 ^ 64) }
-    ensures { result ≡ fieldPlan area.now plan column c skip }
+    ensures { result ≡ field_plan area.now plan column c skip }
 {
     let at = plan.start + column.start;
     let form = column.form;
@@ -181,7 +181,7 @@ fn judged_plan(area: &[u8], plan: RowPlan, column: Column, c: usize, skip: u64) 
 
 // Whether a field that has an entry left is an array outside the heap.
 fn is_outside(plan: FieldPlan) -> bool
-    ensures { result ≡ isOutside plan }
+    ensures { result ≡ is_outside plan }
 {
     let kind = plan.kind;
     match kind {
@@ -194,8 +194,8 @@ fn is_outside(plan: FieldPlan) -> bool
 
 // The plan of the cursor's row that goes over all columns.
 fn plan_for(layout: BinTable, cursor: TableData, stepped: Stepped) -> RowPlan
-    requires { (layoutOk layout ≡ true) × (cursor.row < layout.naxis2) }
-    ensures { result ≡ planFor layout cursor stepped }
+    requires { (layout_ok layout ≡ true) × (cursor.row < layout.naxis2) }
+    ensures { result ≡ plan_for layout cursor stepped }
 {
     let main = layout.naxis1 * layout.naxis2;
     RowPlan {
@@ -213,7 +213,7 @@ fn plan_for(layout: BinTable, cursor: TableData, stepped: Stepped) -> RowPlan
 
 // The plan that stores nothing and leaves the cursor where it is.
 fn no_plan(cursor: TableData, answer: Answer) -> RowPlan
-    ensures { result ≡ noPlan cursor answer }
+    ensures { result ≡ no_plan cursor answer }
 {
     RowPlan {
         tfields: 0,
@@ -231,8 +231,8 @@ fn no_plan(cursor: TableData, answer: Answer) -> RowPlan
 // What is left of the cursor's row.
 fn rest_of(layout: BinTable, area: &[u8], cursor: TableData) -> Rest
     requires { (fits layout area.now ≡ true) × (cursor.row < layout.naxis2) }
-    ensures { result ≡ leftOf (rest (rowEntries layout area.now cursor.choice cursor.heap) layout.naxis2
-        (stateOf cursor)) }
+    ensures { result ≡ left_of (rest (row_entries layout area.now cursor.choice cursor.heap) layout.naxis2
+        (state_of cursor)) }
 {
     // What the row read returns is not known yet, and the plan of a field does not look at it.
     let stepped = Stepped {
@@ -258,8 +258,8 @@ fn rest_of(layout: BinTable, area: &[u8], cursor: TableData) -> Rest
 
 // The cursor at the start of the next row, with n more cells counted.
 fn at_next_row(cursor: TableData, n: u64) -> TableData
-    requires { cursor.row < naxis2Limit }
-    ensures { result ≡ nextRow cursor n }
+    requires { cursor.row < naxis2_limit }
+    ensures { result ≡ next_row cursor n }
 {
     let mut next = cursor;
     next.row = cursor.row + 1;
@@ -270,8 +270,8 @@ fn at_next_row(cursor: TableData, n: u64) -> TableData
 
 // The plan for what is left of the cursor's row and a list of `room` cells.
 fn rest_plan(layout: BinTable, cursor: TableData, rest: Rest, room: usize) -> RowPlan
-    requires { (layoutOk layout ≡ true) × (cursor.row < layout.naxis2) }
-    ensures { result ≡ restPlan layout cursor room rest }
+    requires { (layout_ok layout ≡ true) × (cursor.row < layout.naxis2) }
+    ensures { result ≡ rest_plan layout cursor room rest }
 {
     match rest {
         Rest::OutsideHeap { column } => {
@@ -294,7 +294,7 @@ fn rest_plan(layout: BinTable, cursor: TableData, rest: Rest, room: usize) -> Ro
 
 // The plan of a row read, whatever the row, the place and the cursor are.
 fn any_plan(layout: BinTable, area: &[u8], cursor: TableData, room: usize) -> RowPlan
-    ensures { result ≡ rowPlan layout area.now cursor room }
+    ensures { result ≡ row_plan layout area.now cursor room }
 {
     if table::belongs(layout, area, cursor) {
         if cursor.row < layout.naxis2 {
@@ -309,7 +309,7 @@ fn any_plan(layout: BinTable, area: &[u8], cursor: TableData, room: usize) -> Ro
 // The plan of a row read into a list of `room` cells. One pass over the columns plans a row without descriptors
 // from its start; all else is left to `any_plan`.
 pub fn row_plan(layout: BinTable, area: &[u8], cursor: TableData, room: usize) -> RowPlan
-    ensures { result ≡ rowPlan layout area.now cursor room }
+    ensures { result ≡ row_plan layout area.now cursor room }
 {
     if cursor.passed != 0 {
         return any_plan(layout, area, cursor, room);

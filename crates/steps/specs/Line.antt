@@ -9,11 +9,11 @@ use Rattle.steps.specs.declared.Command.{Command}
 use Rattle.steps.specs.declared.Command.TheVariants as C
 use Rattle.steps.specs.Split.{parts}
 use Rattle.ascii.specs.Number.{number}
-use Rattle.steps.specs.Numbers.{Numbers, allOf, notAll, numbers}
+use Rattle.steps.specs.Numbers.{Numbers, all_of, not_all, numbers}
 
 -- what a line says
 pub data Says : Type 0 where
-  chooseAll : Says
+  choose_all : Says
   choose : List ℕ → Says
   heap : Bool → Says
   cell : Says
@@ -22,20 +22,20 @@ pub data Says : Type 0 where
   bad : Says
 
 -- the most cells of a row read's list
-abbrev pub rowLimit : ℕ
-rowLimit = 512
+abbrev pub row_limit : ℕ
+row_limit = 512
 
-abbrev pub rowBy : Found → Says
-rowBy (At n) = cond (leb n rowLimit) (row n) bad
-rowBy Nothing = bad
+abbrev pub row_by : Found → Says
+row_by (At n) = cond (leb n row_limit) (row n) bad
+row_by Nothing = bad
 
-abbrev pub seekBy : Found → Says
-seekBy (At n) = seek n
-seekBy Nothing = bad
+abbrev pub seek_by : Found → Says
+seek_by (At n) = seek n
+seek_by Nothing = bad
 
-abbrev pub chooseBy : Numbers → Says
-chooseBy (allOf ns) = choose ns
-chooseBy notAll = bad
+abbrev pub choose_by : Numbers → Says
+choose_by (all_of ns) = choose ns
+choose_by not_all = bad
 
 -- the line is these bytes
 abbrev pub is : String → List ℕ → Bool
@@ -49,34 +49,34 @@ begins w s = same (take (length (bytes w)) s) (bytes w)
 unfoldable pub says : List ℕ → Says
 says s =
     cond (is "cell" s) cell
-    (cond (begins "row " s) (rowBy (number (drop 4 s)))
-    (cond (begins "seek " s) (seekBy (number (drop 5 s)))
-    (cond (is "choose all" s) chooseAll
-    (cond (begins "choose " s) (chooseBy (numbers (parts (drop 7 s))))
+    (cond (begins "row " s) (row_by (number (drop 4 s)))
+    (cond (begins "seek " s) (seek_by (number (drop 5 s)))
+    (cond (is "choose all" s) choose_all
+    (cond (begins "choose " s) (choose_by (numbers (parts (drop 7 s))))
     (cond (is "heap on" s) (heap true)
     (cond (is "heap off" s) (heap false) bad))))))
 
 -- what it says as the code has it, without the indexes
-abbrev pub commandOf : Says → Command
-commandOf chooseAll = C.ChooseAll
-commandOf (choose ns) = C.Choose
-commandOf (heap on) = C.Heap on
-commandOf cell = C.Cell
-commandOf (row n) = C.Row n
-commandOf (seek r) = C.Seek r
-commandOf bad = C.Bad
+abbrev pub command_of : Says → Command
+command_of choose_all = C.ChooseAll
+command_of (choose ns) = C.Choose
+command_of (heap on) = C.Heap on
+command_of cell = C.Cell
+command_of (row n) = C.Row n
+command_of (seek r) = C.Seek r
+command_of bad = C.Bad
 
 -- the indexes that a line chooses; none where it is no such line
-abbrev pub indexesOf : Says → List ℕ
-indexesOf chooseAll = []
-indexesOf (choose ns) = ns
-indexesOf (heap on) = []
-indexesOf cell = []
-indexesOf (row n) = []
-indexesOf (seek r) = []
-indexesOf bad = []
+abbrev pub indexes_of : Says → List ℕ
+indexes_of choose_all = []
+indexes_of (choose ns) = ns
+indexes_of (heap on) = []
+indexes_of cell = []
+indexes_of (row n) = []
+indexes_of (seek r) = []
+indexes_of bad = []
 
 -- the list with each index at the place that it names; one that names no place is left out
-unfoldable pub inPlaces : List ℕ → List ℕ → List ℕ
-inPlaces list [] = list
-inPlaces list (n ∷ ns) = inPlaces (set list n n) ns
+unfoldable pub in_places : List ℕ → List ℕ → List ℕ
+in_places list [] = list
+in_places list (n ∷ ns) = in_places (set list n n) ns

@@ -7,20 +7,20 @@ use Rattle.ascii.specs.Number.{number}
 
 -- some numbers, or a part that is none
 pub data Numbers : Type 0 where
-  allOf : List ℕ → Numbers
-  notAll : Numbers
+  all_of : List ℕ → Numbers
+  not_all : Numbers
 
-abbrev pub withFirst : Found → Numbers → Numbers
-withFirst (At n) (allOf ns) = allOf (n ∷ ns)
-withFirst (At n) notAll = notAll
-withFirst Nothing r = notAll
+abbrev pub with_first : Found → Numbers → Numbers
+with_first (At n) (all_of ns) = all_of (n ∷ ns)
+with_first (At n) not_all = not_all
+with_first Nothing r = not_all
 
 -- the numbers that some texts are
 unfoldable pub numbers : List (List ℕ) → Numbers
-numbers [] = allOf []
-numbers (p ∷ ps) = withFirst (number p) (numbers ps)
+numbers [] = all_of []
+numbers (p ∷ ps) = with_first (number p) (numbers ps)
 
 -- whether they are all numbers
-abbrev pub areNumbers : Numbers → Bool
-areNumbers (allOf ns) = true
-areNumbers notAll = false
+abbrev pub are_numbers : Numbers → Bool
+are_numbers (all_of ns) = true
+are_numbers not_all = false

@@ -9,9 +9,9 @@ prepend b [] = (b ∷ []) ∷ []
 prepend b (p ∷ ps) = (b ∷ p) ∷ ps
 
 -- the lines of a text: each ends in a line feed (10), which the last may lack
-unfoldable pub linesOf : List ℕ → List (List ℕ)
-linesOf [] = []
-linesOf (b ∷ bs) = cond (eqb b 10) ([] ∷ linesOf bs) (prepend b (linesOf bs))
+unfoldable pub lines_of : List ℕ → List (List ℕ)
+lines_of [] = []
+lines_of (b ∷ bs) = cond (eqb b 10) ([] ∷ lines_of bs) (prepend b (lines_of bs))
 
 -- the parts of a text between its spaces (32): one more than there are spaces
 unfoldable pub parts : List ℕ → List (List ℕ)
@@ -23,10 +23,10 @@ abbrev pub before : ℕ → List ℕ → ℕ
 before e s = front (λ (b : ℕ). not (eqb b e)) s
 
 -- the line that begins at a place, without its line feed
-abbrev pub lineAt : List ℕ → ℕ → List ℕ
-lineAt s at = take (before 10 (drop at s)) (drop at s)
+abbrev pub line_at : List ℕ → ℕ → List ℕ
+line_at s at = take (before 10 (drop at s)) (drop at s)
 
 -- how many line feeds there are
-unfoldable pub lineFeeds : List ℕ → ℕ
-lineFeeds [] = 0
-lineFeeds (b ∷ bs) = cond (eqb b 10) (suc (lineFeeds bs)) (lineFeeds bs)
+unfoldable pub line_feeds : List ℕ → ℕ
+line_feeds [] = 0
+line_feeds (b ∷ bs) = cond (eqb b 10) (suc (line_feeds bs)) (line_feeds bs)

@@ -5,10 +5,10 @@ mod numbers;
 mod words;
 
 ghost use Rattle.std.specs.Prelude.{◌≡◌, true, false, cond, drop};
-ghost use Rattle.steps.specs.Split.{before, lineAt, lineFeeds, parts};
+ghost use Rattle.steps.specs.Split.{before, line_at, line_feeds, parts};
 ghost use Rattle.ascii.specs.Number.{number};
 ghost use Rattle.steps.specs.Numbers.{numbers};
-ghost use Rattle.steps.specs.Line.{says, rowBy, seekBy, chooseAll, chooseBy, heap, bad, is, begins, commandOf, indexesOf, inPlaces};
+ghost use Rattle.steps.specs.Line.{says, row_by, seek_by, choose_all, choose_by, heap, bad, is, begins, command_of, indexes_of, in_places};
 
 use ascii::Found;
 
@@ -36,7 +36,7 @@ pub fn line_len(text: &[u8]) -> usize
 
 // The line that begins at a place of a text, without its line feed; empty where the text has no such place.
 pub fn line_at(text: &[u8], at: usize) -> &[u8]
-    ensures { result.now ≡ lineAt text.now at }
+    ensures { result.now ≡ line_at text.now at }
 {
     if text.len() <= at {
         return &text[0..0];
@@ -47,7 +47,7 @@ pub fn line_at(text: &[u8], at: usize) -> &[u8]
 
 // How many line feeds a text has.
 pub fn line_feeds(text: &[u8]) -> usize
-    ensures { result ≡ lineFeeds text.now }
+    ensures { result ≡ line_feeds text.now }
 {
     let mut count: usize = 0;
     let mut i: usize = 0;
@@ -62,7 +62,7 @@ pub fn line_feeds(text: &[u8]) -> usize
 
 // What a line says.
 pub fn parse_command(line: &[u8]) -> Command
-    ensures { result ≡ commandOf (says line.now) }
+    ensures { result ≡ command_of (says line.now) }
 {
     if ascii::same_bytes(line, b"cell") {
         return Command::Cell;
@@ -78,7 +78,7 @@ pub fn parse_command(line: &[u8]) -> Command
 
 // `row` with this after it.
 fn row_command(text: &[u8]) -> Command
-    ensures { result ≡ commandOf (rowBy (number text.now)) }
+    ensures { result ≡ command_of (row_by (number text.now)) }
 {
     match ascii::digits::parse_number(text) {
         Found::At(n) => {
@@ -94,7 +94,7 @@ fn row_command(text: &[u8]) -> Command
 
 // `seek` with this after it.
 fn seek_command(text: &[u8]) -> Command
-    ensures { result ≡ commandOf (seekBy (number text.now)) }
+    ensures { result ≡ command_of (seek_by (number text.now)) }
 {
     match ascii::digits::parse_number(text) {
         Found::At(n) => Command::Seek(n),
@@ -104,8 +104,8 @@ fn seek_command(text: &[u8]) -> Command
 
 // A line that is no `cell`, `row` or `seek`.
 fn other_command(line: &[u8]) -> Command
-    ensures { result ≡ commandOf (cond (is "choose all" line.now) chooseAll
-        (cond (begins "choose " line.now) (chooseBy (numbers (parts (drop 7 line.now))))
+    ensures { result ≡ command_of (cond (is "choose all" line.now) choose_all
+        (cond (begins "choose " line.now) (choose_by (numbers (parts (drop 7 line.now))))
         (cond (is "heap on" line.now) (heap true) (cond (is "heap off" line.now) (heap false) bad)))) }
 {
     if ascii::same_bytes(line, b"choose all") {
@@ -119,7 +119,7 @@ fn other_command(line: &[u8]) -> Command
 
 // `choose` with this after it.
 fn choose_command(text: &[u8]) -> Command
-    ensures { result ≡ commandOf (chooseBy (numbers (parts text.now))) }
+    ensures { result ≡ command_of (choose_by (numbers (parts text.now))) }
 {
     if numbers::all_numbers(text) {
         return Command::Choose;
@@ -129,7 +129,7 @@ fn choose_command(text: &[u8]) -> Command
 
 // A line that is none of the others.
 fn heap_command(line: &[u8]) -> Command
-    ensures { result ≡ commandOf (cond (is "heap on" line.now) (heap true)
+    ensures { result ≡ command_of (cond (is "heap on" line.now) (heap true)
         (cond (is "heap off" line.now) (heap false) bad)) }
 {
     if ascii::same_bytes(line, b"heap on") {
@@ -144,7 +144,7 @@ fn heap_command(line: &[u8]) -> Command
 // The indexes that a line chooses, each to the place of the list that it names. One that names no place is left
 // out, and the other places stay as they were.
 pub fn place_indexes(line: &[u8], list: &mut [usize])
-    ensures { list.new ≡ inPlaces list.old (indexesOf (says line.now)) }
+    ensures { list.new ≡ in_places list.old (indexes_of (says line.now)) }
 {
     if !ascii::begins_with(line, b"choose ") {
         return;

@@ -1,8 +1,8 @@
 // The numbers of a line.
 ghost use Rattle.std.specs.Prelude.{◌≡◌, ◌≤◌, ◌<◌, ◌+◌, drop, length, set, true};
 ghost use Rattle.steps.specs.Split.{before, parts};
-ghost use Rattle.steps.specs.Numbers.{numbers, areNumbers};
-ghost use Rattle.steps.specs.Line.{chooseBy, indexesOf, inPlaces};
+ghost use Rattle.steps.specs.Numbers.{numbers, are_numbers};
+ghost use Rattle.steps.specs.Line.{choose_by, indexes_of, in_places};
 ghost use Rattle.ascii.specs.declared.Found.TheVariants.{At, Nothing};
 
 use super::words;
@@ -19,7 +19,7 @@ fn part_end(text: &[u8], at: usize) -> usize
 
 // Whether the parts of a text are all numbers.
 pub fn all_numbers(text: &[u8]) -> bool
-    ensures { result ≡ areNumbers (numbers (parts text.now)) }
+    ensures { result ≡ are_numbers (numbers (parts text.now)) }
 {
     let mut at: usize = 0;
     while at <= text.len() {
@@ -47,8 +47,8 @@ fn place_number(list: &mut [usize], n: usize)
 
 // The numbers that the parts of a text are, each to the place that it names.
 pub fn place_numbers(text: &[u8], list: &mut [usize])
-    requires { areNumbers (numbers (parts text.now)) ≡ true }
-    ensures { list.new ≡ inPlaces list.old (indexesOf (chooseBy (numbers (parts text.now)))) }
+    requires { are_numbers (numbers (parts text.now)) ≡ true }
+    ensures { list.new ≡ in_places list.old (indexes_of (choose_by (numbers (parts text.now)))) }
 {
     let mut at: usize = 0;
     while at <= text.len() {

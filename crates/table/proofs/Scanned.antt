@@ -10,29 +10,29 @@ use native.Mathlib.Omega.{arith}
 use lib.ListN.{length, get_or, drop}
 use lib.Dec.{eqb, leb, ltb}
 use borrow.Author.Tests.{ltb-true, ltb-false, leb-true, lt-ltb, eq-eqb}
-use Rattle.ascii.proofs.Cases.{by-test, either, both}
-use Rattle.tform.specs.Width.{countOk}
+use Rattle.ascii.proofs.Cases.{by_test, either, both}
+use Rattle.tform.specs.Width.{count_ok}
 use Rattle.layout.specs.declared.BinTable.{BinTable}
-use Rattle.layout.specs.Layout.{naxis1Limit, naxis2Limit, pcountLimit, tfieldsLimit, dataLimit, columnBytes, columnsOf, mainSize, dataSize, columnsOk, layoutOk}
-use Rattle.layout.proofs.Named.{column-at}
-use Rattle.layout.proofs.Ok.{column-limit, ok-next, ok-end}
-use Rattle.cell.specs.Field.{field, sizeOf}
-use Rattle.cell.proofs.Inside.{field-bound}
+use Rattle.layout.specs.Layout.{naxis1_limit, naxis2_limit, pcount_limit, tfields_limit, data_limit, column_bytes, columns_of, main_size, data_size, columns_ok, layout_ok}
+use Rattle.layout.proofs.Named.{column_at}
+use Rattle.layout.proofs.Ok.{column_limit, ok_next, ok_end}
+use Rattle.cell.specs.Field.{field, size_of}
+use Rattle.cell.proofs.Inside.{field_bound}
 use Rattle.walk.specs.declared.TableData.{TableData}
 use Rattle.walk.specs.declared.Entry.{Entry}
 use Rattle.walk.specs.declared.Entry.TheVariants.{OutsideHeap}
-use Rattle.walk.specs.Plain.{columnOf, fieldAt, fieldOf, chosen, columnSize, entryIn, rowEntries}
-use Rattle.walk.specs.Walk.{readCell, entryAt, entryOutcome, placeOk}
-use Rattle.walk.specs.Step.{fits, choiceOk, belongs, stateOf, withCursor, cursorStep}
-use Rattle.walk.proofs.Laws.{from, from_row, from_end, length_from, at_here, at-later, size-chosen, next_here}
-use Rattle.walk.proofs.Steps.{cell-at}
+use Rattle.walk.specs.Plain.{column_of, field_at, field_of, chosen, column_size, entry_in, row_entries}
+use Rattle.walk.specs.Walk.{read_cell, entry_at, entry_outcome, place_ok}
+use Rattle.walk.specs.Step.{fits, choice_ok, belongs, state_of, with_cursor, cursor_step}
+use Rattle.walk.proofs.Laws.{from, from_row, from_end, length_from, at_here, at_later, size_chosen, next_here}
+use Rattle.walk.proofs.Steps.{cell_at}
 use Rattle.table.specs.declared.scan.Scan.{Scan}
 use Rattle.table.specs.Scan.{ready, after}
 
 -- row r of a layout with its 64 columns
 module _ (l : BinTable) (a : List ℕ) (choice : ℕ) (heap : Bool) (r : ℕ) where
   abbrev size : ℕ → ℕ
-  size c = columnSize l a choice heap r c
+  size c = column_size l a choice heap r c
 
   abbrev entries : ℕ → List Entry
   entries c = from l a choice heap r c
@@ -41,31 +41,31 @@ module _ (l : BinTable) (a : List ℕ) (choice : ℕ) (heap : Bool) (r : ℕ) wh
   pub record Summed (c at n : ℕ) : Type 0 where
     pub bytes : at ≤ c * 134217728
     pub some : n ≤ c * 17594467745792
-    pub sums : columnsOk l.naxis1 0 (columnsOf l) ≡ columnsOk l.naxis1 at (drop c (columnsOf l))
+    pub sums : columns_ok l.naxis1 0 (columns_of l) ≡ columns_ok l.naxis1 at (drop c (columns_of l))
     pub sizes : n + length (entries c) ≡ length (entries 0)
 
-  pub summed-none : Summed 0 0 0
-  summed-none = record { bytes = omega arith; some = omega arith; sums = refl; sizes = omega arith }
+  pub summed_none : Summed 0 0 0
+  summed_none = record { bytes = omega arith; some = omega arith; sums = refl; sizes = omega arith }
 
   -- column c comes next, with k entries
-  pub summed-next : length (columnsOf l) ≡ l.tfields → (c at n k : ℕ) → c < l.tfields → Summed c at n → k ≤ 17594467745792
-      → countOk (columnOf l c).form (columnOf l c).count ≡ true → (columnOf l c).start ≡ at → k ≡ size c
-      → Summed (suc c) (at + columnBytes (columnOf l c)) (n + k)
-  summed-next full c at n k h w few count e sized =
+  pub summed_next : length (columns_of l) ≡ l.tfields → (c at n k : ℕ) → c < l.tfields → Summed c at n → k ≤ 17594467745792
+      → count_ok (column_of l c).form (column_of l c).count ≡ true → (column_of l c).start ≡ at → k ≡ size c
+      → Summed (suc c) (at + column_bytes (column_of l c)) (n + k)
+  summed_next full c at n k h w few count e sized =
       record {
-        bytes = omega (arith, w.bytes, column-limit (columnOf l c) count);
+        bytes = omega (arith, w.bytes, column_limit (column_of l c) count);
         some = omega (arith, w.some, few);
         sums = w.sums
             ∙ rw (← add-one c)
-            (ok-next l.naxis1 at (columnsOf l) c (columnOf l c) (omega (arith, full, h)) (column-at l c h) count e);
+            (ok_next l.naxis1 at (columns_of l) c (column_of l c) (omega (arith, full, h)) (column_at l c h) count e);
         sizes = omega (arith, w.sizes, length_from l a choice heap r c h, sized);
       }
 
   -- the entries of a column that starts at byte `at` of the row
-  pub sized-at : (c at : ℕ) → (columnOf l c).start ≡ at
-      → cond (chosen choice c) (sizeOf (field a (r * l.naxis1 + at) (columnOf l c) heap l.theap (dataSize l))) 0 ≡ size c
-  unfolding fieldOf
-  sized-at c at e = rw (← e)
+  pub sized_at : (c at : ℕ) → (column_of l c).start ≡ at
+      → cond (chosen choice c) (size_of (field a (r * l.naxis1 + at) (column_of l c) heap l.theap (data_size l))) 0 ≡ size c
+  unfolding field_of
+  sized_at c at e = rw (← e)
 
 -- and p entries of it are passed
 module _ (l : BinTable) (a : List ℕ) (choice : ℕ) (heap : Bool) (r p : ℕ) where
@@ -76,8 +76,8 @@ module _ (l : BinTable) (a : List ℕ) (choice : ℕ) (heap : Bool) (r p : ℕ) 
   -- it is entry `left` of the field of a column below c
   abbrev pub FoundIn : ℕ → Scan → Type 0
   FoundIn c s =
-      (p < s.size) × ((s.column < c) × ((s.left < sizeOf (fieldOf l a heap r s.column))
-      × (sought ≡ entryIn (columnOf l s.column) a r s.column (fieldOf l a heap r s.column) s.left)))
+      (p < s.size) × ((s.column < c) × ((s.left < size_of (field_of l a heap r s.column))
+      × (sought ≡ entry_in (column_of l s.column) a r s.column (field_of l a heap r s.column) s.left)))
 
   -- it stands further on, after `left` entries more
   abbrev pub FurtherOn : ℕ → Scan → Type 0
@@ -89,44 +89,44 @@ module _ (l : BinTable) (a : List ℕ) (choice : ℕ) (heap : Bool) (r p : ℕ) 
     pub found : s.found ≡ true → FoundIn c s
     pub missing : s.found ≡ false → FurtherOn c s
 
-  pub scanned-none : (s : Scan) → s ≡ record { at = 0; size = 0; found = false; left = p; column = 0 } → Scanned 0 s
-  scanned-none s e =
+  pub scanned_none : (s : Scan) → s ≡ record { at = 0; size = 0; found = false; left = p; column = 0 } → Scanned 0 s
+  scanned_none s e =
       rw e
       record {
-        summed = summed-none l a choice heap r;
+        summed = summed_none l a choice heap r;
         found = λ q. absurd (false≢true q);
         missing = λ q. (omega arith, refl);
       }
 
   -- column c comes next, with k entries
-  module _ (full : length (columnsOf l) ≡ l.tfields) (c k : ℕ) (s : Scan) (h : c < l.tfields) (w : Scanned c s)
-      (few : k ≤ 17594467745792) (count : countOk (columnOf l c).form (columnOf l c).count ≡ true) (at : (columnOf l c).start ≡ s.at)
-      (sized : k ≡ columnSize l a choice heap r c) where
+  module _ (full : length (columns_of l) ≡ l.tfields) (c k : ℕ) (s : Scan) (h : c < l.tfields) (w : Scanned c s)
+      (few : k ≤ 17594467745792) (count : count_ok (column_of l c).form (column_of l c).count ≡ true) (at : (column_of l c).start ≡ s.at)
+      (sized : k ≡ column_size l a choice heap r c) where
     abbrev t : Scan
-    t = after s (columnOf l c) c k
+    t = after s (column_of l c) c k
 
-    sum : Summed l a choice heap r (suc c) (s.at + columnBytes (columnOf l c)) (s.size + k)
-    sum = summed-next l a choice heap r full c s.at s.size k h w.summed few count at sized
+    sum : Summed l a choice heap r (suc c) (s.at + column_bytes (column_of l c)) (s.size + k)
+    sum = summed_next l a choice heap r full c s.at s.size k h w.summed few count at sized
 
-    here : s.found ≡ false → s.left < k → FoundIn (suc c) (record { at = s.at + columnBytes (columnOf l c); size = s.size + k; found = true; left = s.left; column = c })
+    here : s.found ≡ false → s.left < k → FoundIn (suc c) (record { at = s.at + column_bytes (column_of l c); size = s.size + k; found = true; left = s.left; column = c })
     here e q =
         let m = w.missing e in
-        let i : s.left < columnSize l a choice heap r c = rw (← sized) q in (
+        let i : s.left < column_size l a choice heap r c = rw (← sized) q in (
           omega (arith, m.0, q),
           (
             omega arith,
-            (size-chosen l a choice heap r c s.left i, m.1 ∙ at_here l a choice heap r c s.left (OutsideHeap 0) h i),
+            (size_chosen l a choice heap r c s.left i, m.1 ∙ at_here l a choice heap r c s.left (OutsideHeap 0) h i),
           ),
         )
 
-    later : s.found ≡ false → k ≤ s.left → FurtherOn (suc c) (record { at = s.at + columnBytes (columnOf l c); size = s.size + k; found = false; left = s.left - k; column = c })
+    later : s.found ≡ false → k ≤ s.left → FurtherOn (suc c) (record { at = s.at + column_bytes (column_of l c); size = s.size + k; found = false; left = s.left - k; column = c })
     later e q =
         let m = w.missing e in
-        let i : columnSize l a choice heap r c ≤ s.left = rw (← sized) q in
-        (omega (arith, m.0, q), m.1 ∙ rw sized (at-later l a choice heap r c s.left (OutsideHeap 0) h i))
+        let i : column_size l a choice heap r c ≤ s.left = rw (← sized) q in
+        (omega (arith, m.0, q), m.1 ∙ rw sized (at_later l a choice heap r c s.left (OutsideHeap 0) h i))
 
-    pub scanned-next : Scanned (suc c) t
-    scanned-next =
+    pub scanned_next : Scanned (suc c) t
+    scanned_next =
         either s.found
         (λ e.
         rw e
@@ -156,15 +156,15 @@ module _ (l : BinTable) (a : List ℕ) (choice : ℕ) (heap : Bool) (r p : ℕ) 
 
 -- the tests of `ready`, one by one
 pub record Ready (l : BinTable) (a : List ℕ) (choice row : ℕ) : Type 0 where
-  pub row-bytes : leb l.naxis1 naxis1Limit ≡ true
-  pub rows : leb l.naxis2 naxis2Limit ≡ true
-  pub heap-bytes : leb l.pcount pcountLimit ≡ true
-  pub columns : leb l.tfields tfieldsLimit ≡ true
-  pub heap-from : leb (mainSize l) l.theap ≡ true
-  pub heap-to : leb l.theap (dataSize l) ≡ true
-  pub area : leb (dataSize l) (length a) ≡ true
+  pub row_bytes : leb l.naxis1 naxis1_limit ≡ true
+  pub rows : leb l.naxis2 naxis2_limit ≡ true
+  pub heap_bytes : leb l.pcount pcount_limit ≡ true
+  pub columns : leb l.tfields tfields_limit ≡ true
+  pub heap_from : leb (main_size l) l.theap ≡ true
+  pub heap_to : leb l.theap (data_size l) ≡ true
+  pub area : leb (data_size l) (length a) ≡ true
   pub in_table : ltb row l.naxis2 ≡ true
-  pub choice-ok : (ltb 0 choice && ltb choice (2 ^ l.tfields)) ≡ true
+  pub choice_in_range : (ltb 0 choice && ltb choice (2 ^ l.tfields)) ≡ true
 
 and_l : (t u : Bool) → (t && u) ≡ true → t ≡ true
 and_l t u e = (both t u e).0
@@ -172,113 +172,113 @@ and_l t u e = (both t u e).0
 and_r : (t u : Bool) → (t && u) ≡ true → u ≡ true
 and_r t u e = (both t u e).1
 
-pub ready-says : (l : BinTable) (a : List ℕ) (choice row : ℕ)
+pub ready_says : (l : BinTable) (a : List ℕ) (choice row : ℕ)
     → ready l.naxis1 l.naxis2 l.pcount l.theap l.tfields (length a) choice row ≡ true → Ready l a choice row
 unfolding ready
-ready-says l a choice row e =
+ready_says l a choice row e =
     record {
-      row-bytes = search and_l depth 12;
+      row_bytes = search and_l depth 12;
       rows = search (and_l, and_r) depth 12;
-      heap-bytes = search (and_l, and_r) depth 12;
+      heap_bytes = search (and_l, and_r) depth 12;
       columns = search (and_l, and_r) depth 12;
-      heap-from = search (and_l, and_r) depth 12;
-      heap-to = search (and_l, and_r) depth 12;
+      heap_from = search (and_l, and_r) depth 12;
+      heap_to = search (and_l, and_r) depth 12;
       area = search (and_l, and_r) depth 12;
       in_table = search (and_l, and_r) depth 12;
-      choice-ok = search (and_l, and_r) depth 12;
+      choice_in_range = search (and_l, and_r) depth 12;
     }
 
 module _ (l : BinTable) (a : List ℕ) (choice row : ℕ) (y : Ready l a choice row) where
-  pub ready-columns : l.tfields ≤ 64
-  ready-columns = leb-true _ _ y.columns
+  pub ready_columns : l.tfields ≤ 64
+  ready_columns = leb-true _ _ y.columns
 
-  pub ready-row : row < l.naxis2
-  ready-row = ltb-true _ _ y.in_table
+  pub ready_row : row < l.naxis2
+  ready_row = ltb-true _ _ y.in_table
 
-  pub ready-data : dataSize l ≤ dataLimit
-  ready-data =
+  pub ready_data : data_size l ≤ data_limit
+  ready_data =
       omega (
         arith,
-        leb-true l.pcount pcountLimit y.heap-bytes,
-        mul-le-mul_right l.naxis2 (leb-true l.naxis1 naxis1Limit y.row-bytes),
-        mul-le-mul_left 1048576 (leb-true l.naxis2 naxis2Limit y.rows),
+        leb-true l.pcount pcount_limit y.heap_bytes,
+        mul-le-mul_right l.naxis2 (leb-true l.naxis1 naxis1_limit y.row_bytes),
+        mul-le-mul_left 1048576 (leb-true l.naxis2 naxis2_limit y.rows),
       )
 
-  pub ready-start : row * l.naxis1 + l.naxis1 ≤ mainSize l
-  ready-start = omega (arith, mul-le-mul_right l.naxis1 ready-row)
+  pub ready_start : row * l.naxis1 + l.naxis1 ≤ main_size l
+  ready_start = omega (arith, mul-le-mul_right l.naxis1 ready_row)
 
   -- the entries of a column
-  pub ready-few : (heap : Bool) (c : ℕ) → countOk (columnOf l c).form (columnOf l c).count ≡ true → columnSize l a choice heap row c ≤ 17594467745792
-  unfolding fieldOf
-  ready-few heap c e =
-      by-test (λ (k : ℕ). k ≤ 17594467745792) (chosen choice c)
-      (λ q. omega (arith, field-bound a (fieldAt l row c) (columnOf l c) heap l.theap (dataSize l), column-limit (columnOf l c) e, ready-data)) (λ q. omega arith)
+  pub ready_few : (heap : Bool) (c : ℕ) → count_ok (column_of l c).form (column_of l c).count ≡ true → column_size l a choice heap row c ≤ 17594467745792
+  unfolding field_of
+  ready_few heap c e =
+      by_test (λ (k : ℕ). k ≤ 17594467745792) (chosen choice c)
+      (λ q. omega (arith, field_bound a (field_at l row c) (column_of l c) heap l.theap (data_size l), column_limit (column_of l c) e, ready_data)) (λ q. omega arith)
 
-  pub ready-fits : columnsOk l.naxis1 0 (columnsOf l) ≡ true → fits l a ≡ true
-  unfolding fits layoutOk
-  ready-fits e = rw (y.row-bytes, y.rows, y.heap-bytes, y.columns, y.heap-from, y.heap-to, e, y.area)
+  pub ready_fits : columns_ok l.naxis1 0 (columns_of l) ≡ true → fits l a ≡ true
+  unfolding fits layout_ok
+  ready_fits e = rw (y.row_bytes, y.rows, y.heap_bytes, y.columns, y.heap_from, y.heap_to, e, y.area)
 
 -- ---- the pass over all columns of a cursor's row
 
-module _ (l : BinTable) (a : List ℕ) (cursor : TableData) (at n : ℕ) (full : length (columnsOf l) ≡ l.tfields)
+module _ (l : BinTable) (a : List ℕ) (cursor : TableData) (at n : ℕ) (full : length (columns_of l) ≡ l.tfields)
     (y : Ready l a cursor.choice cursor.row)
     (w : Summed l a cursor.choice cursor.heap cursor.row l.tfields at n) (ends : at ≡ l.naxis1) where
-  pub summed-fits : fits l a ≡ true
-  summed-fits =
-      ready-fits l a cursor.choice cursor.row y
-      (w.sums ∙ ok-end l.naxis1 at (columnsOf l) l.tfields (omega (arith, full)) ∙ eq-eqb at l.naxis1 ends)
+  pub summed_fits : fits l a ≡ true
+  summed_fits =
+      ready_fits l a cursor.choice cursor.row y
+      (w.sums ∙ ok_end l.naxis1 at (columns_of l) l.tfields (omega (arith, full)) ∙ eq-eqb at l.naxis1 ends)
 
-  pub summed-row : rowEntries l a cursor.choice cursor.heap cursor.row ≡ from l a cursor.choice cursor.heap cursor.row 0
-  summed-row = from_row l a cursor.choice cursor.heap cursor.row (ready-row l a cursor.choice cursor.row y)
+  pub summed_row : row_entries l a cursor.choice cursor.heap cursor.row ≡ from l a cursor.choice cursor.heap cursor.row 0
+  summed_row = from_row l a cursor.choice cursor.heap cursor.row (ready_row l a cursor.choice cursor.row y)
 
-  pub summed-size : length (rowEntries l a cursor.choice cursor.heap cursor.row) ≡ n
-  summed-size =
+  pub summed_size : length (row_entries l a cursor.choice cursor.heap cursor.row) ≡ n
+  summed_size =
       let e : length (from l a cursor.choice cursor.heap cursor.row l.tfields) ≡ 0 = rw (from_end l a cursor.choice cursor.heap cursor.row l.tfields (omega arith)) in
-      rw summed-row (omega (arith, w.sizes, e))
+      rw summed_row (omega (arith, w.sizes, e))
 
   -- the cursor belongs if its place is the row's start or an entry
-  pub summed-belongs : (eqb cursor.passed 0 || ltb cursor.passed (length (rowEntries l a cursor.choice cursor.heap cursor.row))) ≡ true
+  pub summed_belongs : (eqb cursor.passed 0 || ltb cursor.passed (length (row_entries l a cursor.choice cursor.heap cursor.row))) ≡ true
       → belongs l a cursor ≡ true
-  unfolding belongs choiceOk placeOk
-  summed-belongs e = rw (summed-fits, y.choice-ok, y.in_table) e
+  unfolding belongs choice_ok place_ok
+  summed_belongs e = rw (summed_fits, y.choice_in_range, y.in_table) e
 
 -- ---- the entry that was found
 
-or-true : (t : Bool) → (t || true) ≡ true
-or-true true = refl
-or-true false = refl
+or_true : (t : Bool) → (t || true) ≡ true
+or_true true = refl
+or_true false = refl
 
-module _ (l : BinTable) (a : List ℕ) (cursor : TableData) (s : Scan) (full : length (columnsOf l) ≡ l.tfields)
+module _ (l : BinTable) (a : List ℕ) (cursor : TableData) (s : Scan) (full : length (columns_of l) ≡ l.tfields)
     (y : Ready l a cursor.choice cursor.row)
     (w : Scanned l a cursor.choice cursor.heap cursor.row cursor.passed l.tfields s) (ends : s.at ≡ l.naxis1)
     (f : s.found ≡ true) where
-  abbrev rowsOf : ℕ → List Entry
-  rowsOf = rowEntries l a cursor.choice cursor.heap
+  abbrev rows_of : ℕ → List Entry
+  rows_of = row_entries l a cursor.choice cursor.heap
 
   pub found_in : FoundIn l a cursor.choice cursor.heap cursor.row cursor.passed l.tfields s
   found_in = w.found f
 
-  pub found-fits : fits l a ≡ true
-  found-fits = summed-fits l a cursor s.at s.size full y w.summed ends
+  pub found_fits : fits l a ≡ true
+  found_fits = summed_fits l a cursor s.at s.size full y w.summed ends
 
-  row_is : rowsOf cursor.row ≡ from l a cursor.choice cursor.heap cursor.row 0
-  row_is = summed-row l a cursor s.at s.size full y w.summed ends
+  row_is : rows_of cursor.row ≡ from l a cursor.choice cursor.heap cursor.row 0
+  row_is = summed_row l a cursor s.at s.size full y w.summed ends
 
-  whole : length (rowsOf cursor.row) ≡ s.size
-  whole = summed-size l a cursor s.at s.size full y w.summed ends
+  whole : length (rows_of cursor.row) ≡ s.size
+  whole = summed_size l a cursor s.at s.size full y w.summed ends
 
-  inside : cursor.passed < length (rowsOf cursor.row)
+  inside : cursor.passed < length (rows_of cursor.row)
   inside = omega (arith, whole, found_in.0)
 
-  found-belongs : belongs l a cursor ≡ true
-  found-belongs =
-      summed-belongs l a cursor s.at s.size full y w.summed ends
-      (rw (lt-ltb cursor.passed (length (rowsOf cursor.row)) inside) (or-true (eqb cursor.passed 0)))
+  found_belongs : belongs l a cursor ≡ true
+  found_belongs =
+      summed_belongs l a cursor s.at s.size full y w.summed ends
+      (rw (lt-ltb cursor.passed (length (rows_of cursor.row)) inside) (or_true (eqb cursor.passed 0)))
 
-  pub found-step : cursorStep l a cursor readCell
-      ≡ withCursor cursor.choice cursor.heap (entryOutcome (stateOf cursor) s.size cursor.row cursor.passed (entryIn (columnOf l s.column) a cursor.row s.column (fieldOf l a cursor.heap cursor.row s.column) s.left))
-  found-step =
-      let e : get_or (rowsOf cursor.row) cursor.passed (OutsideHeap 0) ≡ entryIn (columnOf l s.column) a cursor.row s.column (fieldOf l a cursor.heap cursor.row s.column) s.left = rw row_is found_in.1.1.1 in
+  pub found_step : cursor_step l a cursor read_cell
+      ≡ with_cursor cursor.choice cursor.heap (entry_outcome (state_of cursor) s.size cursor.row cursor.passed (entry_in (column_of l s.column) a cursor.row s.column (field_of l a cursor.heap cursor.row s.column) s.left))
+  found_step =
+      let e : get_or (rows_of cursor.row) cursor.passed (OutsideHeap 0) ≡ entry_in (column_of l s.column) a cursor.row s.column (field_of l a cursor.heap cursor.row s.column) s.left = rw row_is found_in.1.1.1 in
       rw (← e, ← whole)
-      (cell-at l a cursor found-belongs (entryAt cursor.row cursor.passed (get_or (rowsOf cursor.row) cursor.passed (OutsideHeap 0)))
-      (next_here rowsOf l.naxis2 cursor.row cursor.passed (ready-row l a cursor.choice cursor.row y) inside))
+      (cell_at l a cursor found_belongs (entry_at cursor.row cursor.passed (get_or (rows_of cursor.row) cursor.passed (OutsideHeap 0)))
+      (next_here rows_of l.naxis2 cursor.row cursor.passed (ready_row l a cursor.choice cursor.row y) inside))

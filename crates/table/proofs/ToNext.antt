@@ -12,48 +12,48 @@ use lib.Dec.{eqb}
 use Rattle.ascii.proofs.Cases.{either}
 use Rattle.layout.specs.declared.BinTable.{BinTable}
 use Rattle.walk.specs.Plain.{chosen}
-use Rattle.walk.proofs.Laws.{from, from-skip}
-use Rattle.table.specs.Scan.{nextFrom, nextChosen}
+use Rattle.walk.proofs.Laws.{from, from_skip}
+use Rattle.table.specs.Scan.{next_from, next_chosen}
 
 -- ---- what holds at a column holds at the next chosen one
 
 module _ (choice : ℕ) (P : ℕ → Type 0) (on : (c : ℕ) → chosen choice c ≡ false → P c → P (suc c)) where
-  to-next-of : (k c : ℕ) → P c → P (nextFrom choice c k)
-  unfolding nextFrom
-  to-next-of zero c p = p
-  to-next-of (suc k) c p = either (chosen choice c) (λ e. rw e p) (λ e. rw e (to-next-of k (suc c) (on c e p)))
+  to_next_of : (k c : ℕ) → P c → P (next_from choice c k)
+  unfolding next_from
+  to_next_of zero c p = p
+  to_next_of (suc k) c p = either (chosen choice c) (λ e. rw e p) (λ e. rw e (to_next_of k (suc c) (on c e p)))
 
-  pub to-next : (c : ℕ) → P c → P (nextChosen choice c)
-  to-next c p = to-next-of _ c p
+  pub to_next : (c : ℕ) → P c → P (next_chosen choice c)
+  to_next c p = to_next_of _ c p
 
 -- it is chosen, if it is a column
-next-is : (choice k c : ℕ) → nextFrom choice c k < c + k → chosen choice (nextFrom choice c k) ≡ true
-unfolding nextFrom
-next-is choice zero c h = absurd (omega (arith, h))
-next-is choice (suc k) c h = either (chosen choice c) (λ e. rw e e) (λ e. rw e (next-is choice k (suc c) (omega (arith, rw e at h))))
+next_is : (choice k c : ℕ) → next_from choice c k < c + k → chosen choice (next_from choice c k) ≡ true
+unfolding next_from
+next_is choice zero c h = absurd (omega (arith, h))
+next_is choice (suc k) c h = either (chosen choice c) (λ e. rw e e) (λ e. rw e (next_is choice k (suc c) (omega (arith, rw e at h))))
 
 -- ---- what a loop asks: c is a column, and j the next from it on
 
-module _ (choice c j : ℕ) (is : j ≡ nextChosen choice c) where
-  pub next-later : c ≤ j
-  next-later = rw is (to-next choice (λ (i : ℕ). c ≤ i) (λ i e h. omega (arith, h)) c (omega arith))
+module _ (choice c j : ℕ) (is : j ≡ next_chosen choice c) where
+  pub next_later : c ≤ j
+  next_later = rw is (to_next choice (λ (i : ℕ). c ≤ i) (λ i e h. omega (arith, h)) c (omega arith))
 
-  pub next-chosen : (n : ℕ) → n ≤ 64 → j < n → chosen choice j ≡ true
-  next-chosen n few h =
-      let q : nextChosen choice c < c + (64 - c) = omega (arith, is, few, h) in rw is (next-is choice (64 - c) c q)
+  pub next_chosen_lem : (n : ℕ) → n ≤ 64 → j < n → chosen choice j ≡ true
+  next_chosen_lem n few h =
+      let q : next_chosen choice c < c + (64 - c) = omega (arith, is, few, h) in rw is (next_is choice (64 - c) c q)
 
   -- the entries of a row from the one on are those from the other on
-  pub next-from : (l : BinTable) (a : List ℕ) (heap : Bool) (r : ℕ) → from l a choice heap r c ≡ from l a choice heap r j
-  next-from l a heap r =
+  pub next_from_lem : (l : BinTable) (a : List ℕ) (heap : Bool) (r : ℕ) → from l a choice heap r c ≡ from l a choice heap r j
+  next_from_lem l a heap r =
       rw is
-      (to-next choice (λ (i : ℕ). from l a choice heap r c ≡ from l a choice heap r i) (λ i e q. q ∙ from-skip l a choice heap r i e) c refl)
+      (to_next choice (λ (i : ℕ). from l a choice heap r c ≡ from l a choice heap r i) (λ i e q. q ∙ from_skip l a choice heap r i e) c refl)
 
 -- ---- by the zeros of the choice
 
-zeros-min : (k d m : ℕ) → count_trailing_zeros k m ≡ min k (count_trailing_zeros (k + d) m)
+zeros_min : (k d m : ℕ) → count_trailing_zeros k m ≡ min k (count_trailing_zeros (k + d) m)
 unfolding count_trailing_zeros
-zeros-min zero d m = omega arith
-zeros-min (suc k) d m = rw (suc-add k d) (go (m % 2) (count_trailing_zeros k (m / 2)) (count_trailing_zeros (k + d) (m / 2)) (zeros-min k d (m / 2)))
+zeros_min zero d m = omega arith
+zeros_min (suc k) d m = rw (suc-add k d) (go (m % 2) (count_trailing_zeros k (m / 2)) (count_trailing_zeros (k + d) (m / 2)) (zeros_min k d (m / 2)))
   where
     go : (b t u : ℕ) → t ≡ min k u → under b t ≡ min (suc k) (under b u)
     go zero t u e = omega (arith, e)
@@ -62,11 +62,11 @@ zeros-min (suc k) d m = rw (suc-add k d) (go (m % 2) (count_trailing_zeros k (m 
 halved : (choice c : ℕ) → choice / 2 ^ c / 2 ≡ choice / 2 ^ suc c
 halved choice c = div-div-eq-div-mul choice (2 ^ c) 2 ∙ rw (← pow-suc 2 c)
 
-next-zeros : (choice k c : ℕ) → nextFrom choice c k ≡ c + count_trailing_zeros k (choice / 2 ^ c)
-unfolding nextFrom count_trailing_zeros chosen
-next-zeros choice zero c = omega arith
-next-zeros choice (suc k) c =
-    go (choice / 2 ^ c % 2) _ (count_trailing_zeros k (choice / 2 ^ c / 2)) (mod-lt (choice / 2 ^ c) (omega arith)) (next-zeros choice k (suc c) ∙ rw (halved choice c))
+next_zeros : (choice k c : ℕ) → next_from choice c k ≡ c + count_trailing_zeros k (choice / 2 ^ c)
+unfolding next_from count_trailing_zeros chosen
+next_zeros choice zero c = omega arith
+next_zeros choice (suc k) c =
+    go (choice / 2 ^ c % 2) _ (count_trailing_zeros k (choice / 2 ^ c / 2)) (mod-lt (choice / 2 ^ c) (omega arith)) (next_zeros choice k (suc c) ∙ rw (halved choice c))
   where
     go : (b x t : ℕ) → b < 2 → x ≡ suc c + t → cond (eqb b 1) c x ≡ c + under b t
     go zero x t h e = omega (arith, e)
@@ -74,7 +74,7 @@ next-zeros choice (suc k) c =
     go (suc (suc b)) x t h e = absurd (omega (arith, h))
 
 -- so the zeros of all 64 bits are enough
-pub next-by-zeros : (choice c : ℕ) → c < 64 → nextChosen choice c ≡ c + min (64 - c) (count_trailing_zeros 64 (choice / 2 ^ c))
-next-by-zeros choice c h =
+pub next_by_zeros : (choice c : ℕ) → c < 64 → next_chosen choice c ≡ c + min (64 - c) (count_trailing_zeros 64 (choice / 2 ^ c))
+next_by_zeros choice c h =
     let e : 64 - c + c ≡ 64 = omega (arith, h) in
-    next-zeros choice (64 - c) c ∙ ap (λ (z : ℕ). c + z) (zeros-min (64 - c) c (choice / 2 ^ c) ∙ rw e)
+    next_zeros choice (64 - c) c ∙ ap (λ (z : ℕ). c + z) (zeros_min (64 - c) c (choice / 2 ^ c) ∙ rw e)

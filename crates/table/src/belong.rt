@@ -1,7 +1,7 @@
 // Whether a layout, a data area and a cursor, which anybody can make, belong together.
 ghost use Rattle.std.specs.Prelude.{◌≡◌, true, ◌&&◌, ◌≤◌, ◌^◌, ltb};
-ghost use Rattle.walk.specs.Plain.{rowEntries};
-ghost use Rattle.walk.specs.Walk.{placeOk};
+ghost use Rattle.walk.specs.Plain.{row_entries};
+ghost use Rattle.walk.specs.Walk.{place_ok};
 ghost use Rattle.walk.specs.Step.{fits, belongs};
 
 use super::rows;
@@ -35,7 +35,7 @@ pub fn choice_ok(tfields: usize, choice: u64) -> bool
 // The place is the start of a row, or an entry of one, or the end.
 fn place_ok(layout: BinTable, area: &[u8], cursor: TableData) -> bool
     requires { fits layout area.now ≡ true }
-    ensures { result ≡ placeOk (rowEntries layout area.now cursor.choice cursor.heap) layout.naxis2 cursor.row cursor.passed }
+    ensures { result ≡ place_ok (row_entries layout area.now cursor.choice cursor.heap) layout.naxis2 cursor.row cursor.passed }
 {
     if cursor.row < layout.naxis2 {
         if cursor.passed == 0 {

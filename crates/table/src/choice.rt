@@ -4,7 +4,7 @@ ghost use Rattle.tform.specs.Width.{among};
 ghost use Rattle.refusal.specs.declared.Check.TheVariants.{Refused};
 ghost use Rattle.walk.specs.Plain.{chosen};
 ghost use Rattle.walk.specs.Walk.{start};
-ghost use Rattle.walk.specs.Step.{allColumns, listed, choiceFrom, cursorAt, noCursor, opened, notOpened, openingOf};
+ghost use Rattle.walk.specs.Step.{all_columns, listed, choice_from, cursor_at, no_cursor, opened, not_opened, opening_of};
 
 use refusal::{Check, Refusal};
 use walk::{Opened, TableData};
@@ -20,7 +20,7 @@ pub fn chosen(choice: u64, c: usize) -> bool
 // All of a layout's columns.
 pub fn all_columns(tfields: usize) -> u64
     requires { tfields ≤ 64 }
-    ensures { result ≡ choiceFrom allColumns 0 tfields }
+    ensures { result ≡ choice_from all_columns 0 tfields }
 {
     let mut choice: u64 = 0;
     let mut c = tfields;
@@ -56,7 +56,7 @@ fn with_column(choice: u64, wanted: bool) -> u64
 // Those of a layout's columns that are listed.
 pub fn listed_columns(tfields: usize, cols: &[usize]) -> u64
     requires { tfields ≤ 64 }
-    ensures { result ≡ choiceFrom (listed cols.now) 0 tfields }
+    ensures { result ≡ choice_from (listed cols.now) 0 tfields }
 {
     let mut choice: u64 = 0;
     let mut c = tfields;
@@ -70,7 +70,7 @@ pub fn listed_columns(tfields: usize, cols: &[usize]) -> u64
 // Beside a refusal stands the empty cursor.
 pub fn refused(refusal: Refusal) -> Opened
     ensures check { result.check ≡ Refused refusal }
-    ensures cursor { result.cursor ≡ noCursor }
+    ensures cursor { result.cursor ≡ no_cursor }
 {
     Opened {
         cursor: TableData {
@@ -86,7 +86,7 @@ pub fn refused(refusal: Refusal) -> Opened
 
 // A cursor with this choice, if it has a column.
 pub fn opened(choice: u64, heap: bool) -> Opened
-    ensures { openingOf result ≡ cond (ltb 0 choice) (opened (cursorAt choice heap start)) (notOpened 11) }
+    ensures { opening_of result ≡ cond (ltb 0 choice) (opened (cursor_at choice heap start)) (not_opened 11) }
 {
     if choice == 0 {
         return refused(Refusal::NoColumn);

@@ -10,9 +10,9 @@ mod scan;
 mod step;
 
 ghost use Rattle.std.specs.Prelude.{◌≡◌, []};
-ghost use Rattle.walk.specs.Walk.{readCell, seek};
+ghost use Rattle.walk.specs.Walk.{read_cell, seek};
 ghost use Rattle.walk.specs.Plain.{chosen};
-ghost use Rattle.walk.specs.Step.{allColumns, listed, belongs, openWith, openingOf, cursorStep, resultOf};
+ghost use Rattle.walk.specs.Step.{all_columns, listed, belongs, open_with, opening_of, cursor_step, result_of};
 
 use layout::{BinTable, TFIELDS_LIMIT};
 use refusal::Refusal;
@@ -22,7 +22,7 @@ use walk::{Answer, Opened, Stepped, TableData};
 // A cursor on all columns, at the start of the table. Refused with 10 if the layout and the area do not belong
 // together, then with 11 if there is no column; beside a refusal stands the empty cursor.
 pub fn open(layout: BinTable, area: &[u8], heap: bool) -> Opened
-    ensures { openingOf result ≡ openWith layout area.now allColumns heap }
+    ensures { opening_of result ≡ open_with layout area.now all_columns heap }
 {
     if belong::fits(layout, area) {
         return choice::opened(choice::all_columns(layout.tfields), heap);
@@ -33,7 +33,7 @@ pub fn open(layout: BinTable, area: &[u8], heap: bool) -> Opened
 // A cursor on the columns that are listed by their indexes from 0. Unknown ones are dropped and a repeated one
 // counts once; the order is always that of the table. Refused as `open` is.
 pub fn select_fields(layout: BinTable, area: &[u8], cols: &[usize], heap: bool) -> Opened
-    ensures { openingOf result ≡ openWith layout area.now (listed cols.now) heap }
+    ensures { opening_of result ≡ open_with layout area.now (listed cols.now) heap }
 {
     if belong::fits(layout, area) {
         return choice::opened(choice::listed_columns(layout.tfields, cols), heap);
@@ -44,7 +44,7 @@ pub fn select_fields(layout: BinTable, area: &[u8], cols: &[usize], heap: bool) 
 // The cell read: the next cell, the end, or refusal 13 at an array outside the heap. Refused with 10 first, if the
 // cursor does not belong to the layout and the area. A refusal returns the cursor that it got.
 pub fn next(layout: BinTable, area: &[u8], cursor: TableData) -> Stepped
-    ensures { resultOf result [] ≡ cursorStep layout area.now cursor readCell }
+    ensures { result_of result [] ≡ cursor_step layout area.now cursor read_cell }
 {
     // One pass over the columns gives the entry of the cursor's row. Where it gives none, the calls of `step` tell why.
     if pass::ready(
@@ -108,7 +108,7 @@ pub fn next(layout: BinTable, area: &[u8], cursor: TableData) -> Stepped
 
 // The seek: to the start of a row, or refusal 12 if there is no such row. Refused with 10 first, as `next` is.
 pub fn seek_to_row(layout: BinTable, area: &[u8], cursor: TableData, row: usize) -> Stepped
-    ensures { resultOf result [] ≡ cursorStep layout area.now cursor (seek row) }
+    ensures { result_of result [] ≡ cursor_step layout area.now cursor (seek row) }
 {
     if belong::belongs(layout, area, cursor) {
         return step::seek(layout.naxis2, cursor, row);

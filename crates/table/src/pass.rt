@@ -1,8 +1,8 @@
 // What a pass over the columns of a cursor's row asks, of the table and of each column: the cell read's pass, and
 // the row read's of `row`.
 ghost use Rattle.std.specs.Prelude.{◌≡◌, cond, ◌&&◌, eqb};
-ghost use Rattle.tform.specs.Width.{countOk, fieldItems};
-ghost use Rattle.table.specs.Scan.{nextChosen, ready, noDescriptor, plainColumn};
+ghost use Rattle.tform.specs.Width.{count_ok, field_items};
+ghost use Rattle.table.specs.Scan.{next_chosen, ready, no_descriptor, plain_column};
 
 use super::belong;
 use layout::{Column, NAXIS1_LIMIT, NAXIS2_LIMIT, PCOUNT_LIMIT, TFIELDS_LIMIT};
@@ -52,7 +52,7 @@ pub fn ready(
 
 // The first column from c on that is chosen; 64 if there is none, or c where that is further on.
 pub fn next_chosen(choice: u64, c: usize) -> usize
-    ensures { result ≡ nextChosen choice c }
+    ensures { result ≡ next_chosen choice c }
 {
     if c < TFIELDS_LIMIT {
         let zeros = u64::trailing_zeros(choice >> c) as usize;
@@ -67,7 +67,7 @@ pub fn next_chosen(choice: u64, c: usize) -> usize
 // Whether a column starts where the one before ends, and its count is within its limit. In the other order the cell
 // read's pass is slower (docs/SPEED.md).
 pub fn in_order(column: Column, at: u64) -> bool
-    ensures { result ≡ (countOk column.form column.count && eqb column.start at) }
+    ensures { result ≡ (count_ok column.form column.count && eqb column.start at) }
 {
     if column.start != at {
         return false;
@@ -78,7 +78,7 @@ pub fn in_order(column: Column, at: u64) -> bool
 
 // Whether a column holds no descriptor: it has items, or is P or Q of count 0.
 fn no_descriptor(column: Column) -> bool
-    ensures { result ≡ noDescriptor column.form column.count }
+    ensures { result ≡ no_descriptor column.form column.count }
 {
     let form = column.form;
     match form {
@@ -89,7 +89,7 @@ fn no_descriptor(column: Column) -> bool
 
 // Whether a column is in order and, if it is chosen, holds no descriptor.
 pub fn plain_in_order(column: Column, at: u64, is_chosen: bool) -> bool
-    ensures { result ≡ ((countOk column.form column.count && eqb column.start at) && plainColumn column is_chosen) }
+    ensures { result ≡ ((count_ok column.form column.count && eqb column.start at) && plain_column column is_chosen) }
 {
     if in_order(column, at) {
         if is_chosen {
@@ -102,7 +102,7 @@ pub fn plain_in_order(column: Column, at: u64, is_chosen: bool) -> bool
 
 // How many items a column has in a row, a descriptor being one: none if it is not chosen.
 pub fn item_cells(column: Column, is_chosen: bool) -> u64
-    ensures { result ≡ cond is_chosen (fieldItems column.form column.count) 0 }
+    ensures { result ≡ cond is_chosen (field_items column.form column.count) 0 }
 {
     if is_chosen {
         let form = column.form;

@@ -1,13 +1,13 @@
 // The plain list of a row: how many entries it has, the entry at an index, and the next entry from a place on.
 ghost use Rattle.std.specs.Prelude.{ℕ, ◌≡◌, true, cond, ◌+◌, ◌-◌, ◌*◌, ◌≤◌, ◌<◌, length, get_or};
-ghost use Rattle.layout.specs.Layout.{dataLimit, dataSize, layoutOk};
-ghost use Rattle.cell.specs.Field.{field, sizeOf, ItemsInside};
+ghost use Rattle.layout.specs.Layout.{data_limit, data_size, layout_ok};
+ghost use Rattle.cell.specs.Field.{field, size_of, ItemsInside};
 ghost use Rattle.walk.specs.declared.Entry.TheVariants.{OutsideHeap};
-ghost use Rattle.walk.specs.Plain.{columnOf, entryIn, rowEntries};
+ghost use Rattle.walk.specs.Plain.{column_of, entry_in, row_entries};
 ghost use Rattle.walk.specs.Walk.{next};
 ghost use Rattle.walk.specs.Step.{fits};
-ghost use Rattle.table.specs.NextPlace.{nextPlace};
-ghost use Rattle.table.specs.Scan.{anyItems};
+ghost use Rattle.table.specs.NextPlace.{next_place};
+ghost use Rattle.table.specs.Scan.{any_items};
 
 use super::pass;
 use cell::{Cell, Field};
@@ -25,7 +25,7 @@ pub enum NextPlace {
 // How many entries a field at a place has, by reading it. The loops of the long way call it too, so that `column_size`
 // has one caller, the pass of `next`, and is compiled into it.
 fn array_entries(area: &[u8], at: u64, column: Column, heap: bool, theap: u64, end: u64) -> u64
-    ensures { result ≡ sizeOf (field area.now at column heap theap end) }
+    ensures { result ≡ size_of (field area.now at column heap theap end) }
 {
     let field = cell::read_field(area, at, column, heap, theap, end);
     cell::field_size(field)
@@ -33,7 +33,7 @@ fn array_entries(area: &[u8], at: u64, column: Column, heap: bool, theap: u64, e
 
 // How many entries a field at a place has. Only a descriptor has to be read for it.
 fn field_entries(area: &[u8], at: u64, column: Column, heap: bool, theap: u64, end: u64) -> u64
-    ensures { result ≡ sizeOf (field area.now at column heap theap end) }
+    ensures { result ≡ size_of (field area.now at column heap theap end) }
 {
     let form = column.form;
     match form {
@@ -53,7 +53,7 @@ pub fn column_size(
     theap: u64,
     end: u64,
 ) -> u64
-    ensures { result ≡ cond is_chosen (sizeOf (field area.now at column heap theap end)) 0 }
+    ensures { result ≡ cond is_chosen (size_of (field area.now at column heap theap end)) 0 }
 {
     if is_chosen {
         return field_entries(area, at, column, heap, theap, end);
@@ -70,11 +70,11 @@ pub struct RowSpan {
 
 // The place of a row, in which its columns lie.
 fn row_span(layout: BinTable, row: u64) -> RowSpan
-    requires { (layoutOk layout ≡ true) × (row < layout.naxis2) }
+    requires { (layout_ok layout ≡ true) × (row < layout.naxis2) }
     ensures start { result.start ≡ row * layout.naxis1 }
-    ensures end { result.end ≡ dataSize layout }
+    ensures end { result.end ≡ data_size layout }
     ensures few { layout.tfields ≤ 64 }
-    ensures columns { (c : ℕ) → c < layout.tfields → result.start + (columnOf layout c).start ≤ dataLimit }
+    ensures columns { (c : ℕ) → c < layout.tfields → result.start + (column_of layout c).start ≤ data_limit }
 {
     let main = layout.naxis1 * layout.naxis2;
     RowSpan {
@@ -86,7 +86,7 @@ fn row_span(layout: BinTable, row: u64) -> RowSpan
 // How many entries a row has.
 pub fn row_size(layout: BinTable, area: &[u8], choice: u64, heap: bool, row: u64) -> u64
     requires { (fits layout area.now ≡ true) × (row < layout.naxis2) }
-    ensures { result ≡ length (rowEntries layout area.now choice heap row) }
+    ensures { result ≡ length (row_entries layout area.now choice heap row) }
 {
     let RowSpan { start, end } = row_span(layout, row);
     let mut total: u64 = 0;
@@ -103,8 +103,8 @@ pub fn row_size(layout: BinTable, area: &[u8], choice: u64, heap: bool, row: u64
 
 // The entry at an index of a field.
 fn entry_in(area: &[u8], column: Column, row: u64, c: usize, field: Field, idx: u64) -> Entry
-    requires { (idx < sizeOf field) × ItemsInside dataLimit field }
-    ensures { result ≡ entryIn column area.now row c field idx }
+    requires { (idx < size_of field) × ItemsInside data_limit field }
+    ensures { result ≡ entry_in column area.now row c field idx }
 {
     match field {
         Field::Items { ty, at, n: _ } => {
@@ -138,9 +138,9 @@ pub fn entry_of(
     theap: u64,
     end: u64,
 ) -> Entry
-    requires { (idx < sizeOf (field area.now at column cursor.heap theap end))
-        × ItemsInside dataLimit (field area.now at column cursor.heap theap end) }
-    ensures { result ≡ entryIn column area.now cursor.row c (field area.now at column cursor.heap theap end) idx }
+    requires { (idx < size_of (field area.now at column cursor.heap theap end))
+        × ItemsInside data_limit (field area.now at column cursor.heap theap end) }
+    ensures { result ≡ entry_in column area.now cursor.row c (field area.now at column cursor.heap theap end) idx }
 {
     let field = cell::read_field(area, at, column, cursor.heap, theap, end);
     entry_in(area, column, cursor.row, c, field, idx)
@@ -149,8 +149,8 @@ pub fn entry_of(
 // The entry at an index of a row.
 pub fn entry_at(layout: BinTable, area: &[u8], choice: u64, heap: bool, row: u64, k: u64) -> Entry
     requires { (fits layout area.now ≡ true) × (row < layout.naxis2)
-        × (k < length (rowEntries layout area.now choice heap row)) }
-    ensures { result ≡ get_or (rowEntries layout area.now choice heap row) k (OutsideHeap 0) }
+        × (k < length (row_entries layout area.now choice heap row)) }
+    ensures { result ≡ get_or (row_entries layout area.now choice heap row) k (OutsideHeap 0) }
 {
     let RowSpan { start, end } = row_span(layout, row);
     let mut left = k;
@@ -173,7 +173,7 @@ pub fn entry_at(layout: BinTable, area: &[u8], choice: u64, heap: bool, row: u64
 // Whether a chosen column holds an item or a descriptor. If none does, no row has an entry.
 fn any_items(layout: BinTable, choice: u64) -> bool
     requires { layout.tfields ≤ 64 }
-    ensures { result ≡ anyItems layout choice 0 layout.tfields }
+    ensures { result ≡ any_items layout choice 0 layout.tfields }
 {
     let mut c = pass::next_chosen(choice, 0);
     while c < layout.tfields {
@@ -197,8 +197,8 @@ pub fn find_entry(
     passed: u64,
 ) -> NextPlace
     requires { fits layout area.now ≡ true }
-    ensures { result ≡ nextPlace (rowEntries layout area.now choice heap)
-        (next (rowEntries layout area.now choice heap) layout.naxis2 (layout.naxis2 - row) row passed) }
+    ensures { result ≡ next_place (row_entries layout area.now choice heap)
+        (next (row_entries layout area.now choice heap) layout.naxis2 (layout.naxis2 - row) row passed) }
 {
     if !any_items(layout, choice) {
         return NextPlace::Nothing;

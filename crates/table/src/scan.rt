@@ -1,6 +1,6 @@
 // One pass over the columns of a cursor's row for a cell read: it counts the row's entries and finds the next one.
 ghost use Rattle.std.specs.Prelude.{◌≡◌, true, ◌+◌, ◌≤◌, ◌<◌, ◌^◌};
-ghost use Rattle.tform.specs.Width.{countOk};
+ghost use Rattle.tform.specs.Width.{count_ok};
 ghost use Rattle.table.specs.Scan.{after};
 
 use layout::Column;
@@ -18,7 +18,7 @@ pub struct Scan {
 
 // The pass after column c, which has so many entries.
 pub fn after(scan: Scan, column: Column, c: usize, size: u64) -> Scan
-    requires { (countOk column.form column.count ≡ true) × ((scan.at ≤ 8589934592) × (scan.size + size < 2 ^ 64)) }
+    requires { (count_ok column.form column.count ≡ true) × ((scan.at ≤ 8589934592) × (scan.size + size < 2 ^ 64)) }
     ensures { result ≡ after scan column c size }
 {
     let form = column.form;

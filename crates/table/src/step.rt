@@ -1,8 +1,8 @@
 // The steps of a cursor that belongs.
 ghost use Rattle.std.specs.Prelude.{◌≡◌, true, [], ◌<◌};
-ghost use Rattle.layout.specs.Layout.{naxis2Limit};
-ghost use Rattle.walk.specs.Walk.{readCell, placed, grown, pass, entryOutcome, seekOutcome};
-ghost use Rattle.walk.specs.Step.{belongs, stateOf, cursorAt, withCursor, cursorStep, resultOf};
+ghost use Rattle.layout.specs.Layout.{naxis2_limit};
+ghost use Rattle.walk.specs.Walk.{read_cell, placed, grown, pass, entry_outcome, seek_outcome};
+ghost use Rattle.walk.specs.Step.{belongs, state_of, cursor_at, with_cursor, cursor_step, result_of};
 
 use super::rows::NextPlace;
 use super::{belong, rows};
@@ -12,7 +12,7 @@ use walk::{Answer, Entry, Stepped, TableData};
 
 // The cursor at another place.
 fn placed(cursor: TableData, row: u64, passed: u64) -> TableData
-    ensures { result ≡ cursorAt cursor.choice cursor.heap (placed (stateOf cursor) row passed) }
+    ensures { result ≡ cursor_at cursor.choice cursor.heap (placed (state_of cursor) row passed) }
 {
     TableData {
         choice: cursor.choice,
@@ -25,7 +25,7 @@ fn placed(cursor: TableData, row: u64, passed: u64) -> TableData
 
 // The cursor with one more cell counted.
 fn grown(cursor: TableData) -> TableData
-    ensures { result ≡ cursorAt cursor.choice cursor.heap (grown (stateOf cursor) readCell 1) }
+    ensures { result ≡ cursor_at cursor.choice cursor.heap (grown (state_of cursor) read_cell 1) }
 {
     TableData {
         choice: cursor.choice,
@@ -38,8 +38,8 @@ fn grown(cursor: TableData) -> TableData
 
 // The cursor after entry `passed` of a row that has `size` of them.
 fn pass(cursor: TableData, row: u64, passed: u64, size: u64) -> TableData
-    requires { (row < naxis2Limit) × (passed < size) }
-    ensures { result ≡ cursorAt cursor.choice cursor.heap (pass (stateOf cursor) size row passed) }
+    requires { (row < naxis2_limit) × (passed < size) }
+    ensures { result ≡ cursor_at cursor.choice cursor.heap (pass (state_of cursor) size row passed) }
 {
     if passed + 1 < size {
         return placed(cursor, row, passed + 1);
@@ -49,9 +49,9 @@ fn pass(cursor: TableData, row: u64, passed: u64, size: u64) -> TableData
 
 // A cell read at an entry.
 pub fn read_entry(cursor: TableData, row: u64, passed: u64, size: u64, entry: Entry) -> Stepped
-    requires { (row < naxis2Limit) × (passed < size) }
-    ensures { resultOf result [] ≡ withCursor cursor.choice cursor.heap
-        (entryOutcome (stateOf cursor) size row passed entry) }
+    requires { (row < naxis2_limit) × (passed < size) }
+    ensures { result_of result [] ≡ with_cursor cursor.choice cursor.heap
+        (entry_outcome (state_of cursor) size row passed entry) }
 {
     match entry {
         Entry::Cell(cell) => Stepped {
@@ -68,7 +68,7 @@ pub fn read_entry(cursor: TableData, row: u64, passed: u64, size: u64, entry: En
 // A cell read of a cursor that belongs.
 fn read_cell(layout: BinTable, area: &[u8], cursor: TableData) -> Stepped
     requires { belongs layout area.now cursor ≡ true }
-    ensures { resultOf result [] ≡ cursorStep layout area.now cursor readCell }
+    ensures { result_of result [] ≡ cursor_step layout area.now cursor read_cell }
 {
     let place = rows::find_entry(
         layout,
@@ -92,7 +92,7 @@ fn read_cell(layout: BinTable, area: &[u8], cursor: TableData) -> Stepped
 
 // A cell read: refused with 10 if the cursor does not belong.
 pub fn next(layout: BinTable, area: &[u8], cursor: TableData) -> Stepped
-    ensures { resultOf result [] ≡ cursorStep layout area.now cursor readCell }
+    ensures { result_of result [] ≡ cursor_step layout area.now cursor read_cell }
 {
     if belong::belongs(layout, area, cursor) {
         return read_cell(layout, area, cursor);
@@ -105,7 +105,7 @@ pub fn next(layout: BinTable, area: &[u8], cursor: TableData) -> Stepped
 
 // A seek of a cursor that belongs to a table of naxis2 rows.
 pub fn seek(naxis2: u64, cursor: TableData, row: usize) -> Stepped
-    ensures { resultOf result [] ≡ withCursor cursor.choice cursor.heap (seekOutcome naxis2 (stateOf cursor) row) }
+    ensures { result_of result [] ≡ with_cursor cursor.choice cursor.heap (seek_outcome naxis2 (state_of cursor) row) }
 {
     if (row as u64) < naxis2 {
         return Stepped {

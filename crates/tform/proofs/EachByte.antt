@@ -10,125 +10,125 @@ use Rattle.tform.specs.declared.TFormType.{TFormType}
 use Rattle.tform.specs.declared.TFormType.TheVariants.{P, Q}
 use Rattle.tform.specs.declared.parsing.Kind.{Kind}
 use Rattle.tform.specs.declared.parsing.Kind.TheVariants.{Is, Unknown}
-use Rattle.tform.specs.Width.{among, letter, formLetter, letterWidth}
-use Rattle.tform.specs.Form.{elementAmong, elementOf, firstElement, kindOf}
-use Rattle.tform.proofs.Tables.{every, every-at}
+use Rattle.tform.specs.Width.{among, letter, form_letter, letter_width}
+use Rattle.tform.specs.Form.{element_among, element_of, first_element, kind_of}
+use Rattle.tform.proofs.Tables.{every, every_at}
 
 -- the table that fell, of the letters A to Z
-abbrev pub tableAToZ : List ℕ
-tableAToZ = 1 ∷ 1 ∷ 8 ∷ 8 ∷ 4 ∷ 0 ∷ 0 ∷ 0 ∷ 2 ∷ 4 ∷ 8 ∷ 1 ∷ 16 ∷ 0 ∷ 0 ∷ 8 ∷ 16 ∷ 0 ∷ 0 ∷ 0 ∷ 0 ∷ 0 ∷ 0 ∷ 1 ∷ 0 ∷ 0 ∷ []
+abbrev pub table_ato_z : List ℕ
+table_ato_z = 1 ∷ 1 ∷ 8 ∷ 8 ∷ 4 ∷ 0 ∷ 0 ∷ 0 ∷ 2 ∷ 4 ∷ 8 ∷ 1 ∷ 16 ∷ 0 ∷ 0 ∷ 8 ∷ 16 ∷ 0 ∷ 0 ∷ 0 ∷ 0 ∷ 0 ∷ 0 ∷ 1 ∷ 0 ∷ 0 ∷ []
 
 -- what it gave for the bytes 0 to 255: 0 below A and above Z
-unfoldable pub tableWidths : List ℕ
-tableWidths = replicate 65 0 ++ (tableAToZ ++ replicate 165 0)
+unfoldable pub table_widths : List ℕ
+table_widths = replicate 65 0 ++ (table_ato_z ++ replicate 165 0)
 
-abbrev pub tableWidth : ℕ → ℕ
-tableWidth b = get_or tableWidths b 0
+abbrev pub table_width : ℕ → ℕ
+table_width b = get_or table_widths b 0
 
 -- of a byte: its width; that no form begins with it if that is 0; that else, but for P (80) and Q (81), it is the letter of a form whatever
 -- follows; and that P and Q, followed by the letter of an element, are the descriptor that carries it
 pub record AsBefore (b : ℕ) : Type 0 where
-  pub width : letterWidth b ≡ tableWidth b
-  pub bad : tableWidth b ≡ 0 → (rest : List ℕ) → kindOf (b ∷ rest) ≡ Unknown
-  pub plain : 0 < tableWidth b → eqb b 80 || eqb b 81 ≡ false → (rest : List ℕ) → (f : TFormType) × (kindOf (b ∷ rest) ≡ Is f) × (formLetter f ≡ b)
-  pub p : b ≡ 80 → (e : VariableArrayTy) (rest : List ℕ) → kindOf (b ∷ letter e ∷ rest) ≡ Is (P e)
-  pub q : b ≡ 81 → (e : VariableArrayTy) (rest : List ℕ) → kindOf (b ∷ letter e ∷ rest) ≡ Is (Q e)
+  pub width : letter_width b ≡ table_width b
+  pub bad : table_width b ≡ 0 → (rest : List ℕ) → kind_of (b ∷ rest) ≡ Unknown
+  pub plain : 0 < table_width b → eqb b 80 || eqb b 81 ≡ false → (rest : List ℕ) → (f : TFormType) × (kind_of (b ∷ rest) ≡ Is f) × (form_letter f ≡ b)
+  pub p : b ≡ 80 → (e : VariableArrayTy) (rest : List ℕ) → kind_of (b ∷ letter e ∷ rest) ≡ Is (P e)
+  pub q : b ≡ 81 → (e : VariableArrayTy) (rest : List ℕ) → kind_of (b ∷ letter e ∷ rest) ≡ Is (Q e)
 
 -- one more than the letter of a form, 0 for a bad one
-abbrev letterOf : Kind → ℕ
-letterOf (Is f) = suc (formLetter f)
-letterOf Unknown = 0
+abbrev letter_of : Kind → ℕ
+letter_of (Is f) = suc (form_letter f)
+letter_of Unknown = 0
 
-abbrev isUnknown : Kind → Bool
-isUnknown (Is f) = false
-isUnknown Unknown = true
+abbrev is_unknown : Kind → Bool
+is_unknown (Is f) = false
+is_unknown Unknown = true
 
-is-unknown : (k : Kind) → isUnknown k ≡ true → k ≡ Unknown
-is-unknown (Is f) e = cc
-is-unknown Unknown e = refl
+is_unknown_lem : (k : Kind) → is_unknown k ≡ true → k ≡ Unknown
+is_unknown_lem (Is f) e = cc
+is_unknown_lem Unknown e = refl
 
-is-form : (k : Kind) (b : ℕ) → letterOf k ≡ suc b → (f : TFormType) × (k ≡ Is f) × (formLetter f ≡ b)
-is-form (Is f) b e = (f, refl, omega arith)
-is-form Unknown b e = absurd (omega arith)
+is_form : (k : Kind) (b : ℕ) → letter_of k ≡ suc b → (f : TFormType) × (k ≡ Is f) × (form_letter f ≡ b)
+is_form (Is f) b e = (f, refl, omega arith)
+is_form Unknown b e = absurd (omega arith)
 
 -- the three tests of a byte b, of which the table has x
-widthTest : ℕ → ℕ → Bool
-unfolding letterWidth among bytes
-widthTest b x = eqb (letterWidth b) x
+width_test : ℕ → ℕ → Bool
+unfolding letter_width among bytes
+width_test b x = eqb (letter_width b) x
 
-badTest : List ℕ → ℕ → ℕ → Bool
-unfolding kindOf elementOf elementAmong
-badTest rest b x = cond (eqb x 0) (isUnknown (kindOf (b ∷ rest))) true
+bad_test : List ℕ → ℕ → ℕ → Bool
+unfolding kind_of element_of element_among
+bad_test rest b x = cond (eqb x 0) (is_unknown (kind_of (b ∷ rest))) true
 
-plainTest : List ℕ → ℕ → ℕ → Bool
-unfolding kindOf elementOf elementAmong
-plainTest rest b x = cond (eqb x 0) true (cond (eqb b 80 || eqb b 81) true (eqb (letterOf (kindOf (b ∷ rest))) (suc b)))
+plain_test : List ℕ → ℕ → ℕ → Bool
+unfolding kind_of element_of element_among
+plain_test rest b x = cond (eqb x 0) true (cond (eqb b 80 || eqb b 81) true (eqb (letter_of (kind_of (b ∷ rest))) (suc b)))
 
-passes : (f : ℕ → ℕ → Bool) → every f 0 tableWidths ≡ true → (b : ℕ) → b < 256 → f b (tableWidth b) ≡ true
-unfolding tableWidths
-passes f t b h = rw zero-add at (every-at f tableWidths 0 t b h)
+passes : (f : ℕ → ℕ → Bool) → every f 0 table_widths ≡ true → (b : ℕ) → b < 256 → f b (table_width b) ≡ true
+unfolding table_widths
+passes f t b h = rw zero-add at (every_at f table_widths 0 t b h)
 
-bad-of : (rest : List ℕ) (b x : ℕ) → badTest rest b x ≡ true → x ≡ 0 → kindOf (b ∷ rest) ≡ Unknown
-unfolding badTest
-bad-of rest b x t e = is-unknown (kindOf (b ∷ rest)) (rw e at t)
+bad_of : (rest : List ℕ) (b x : ℕ) → bad_test rest b x ≡ true → x ≡ 0 → kind_of (b ∷ rest) ≡ Unknown
+unfolding bad_test
+bad_of rest b x t e = is_unknown_lem (kind_of (b ∷ rest)) (rw e at t)
 
-plain-of : (rest : List ℕ) (b x : ℕ) → plainTest rest b x ≡ true → 0 < x → eqb b 80 || eqb b 81 ≡ false
-    → (f : TFormType) × (kindOf (b ∷ rest) ≡ Is f) × (formLetter f ≡ b)
-unfolding plainTest
-plain-of rest b x t h n =
+plain_of : (rest : List ℕ) (b x : ℕ) → plain_test rest b x ≡ true → 0 < x → eqb b 80 || eqb b 81 ≡ false
+    → (f : TFormType) × (kind_of (b ∷ rest) ≡ Is f) × (form_letter f ≡ b)
+unfolding plain_test
+plain_of rest b x t h n =
     let ne : eqb x 0 ≡ false = ne_eqb x 0 (omega arith) in
-    let passed : eqb (letterOf (kindOf (b ∷ rest))) (suc b) ≡ true = rw (ne, n) at t in
-    is-form (kindOf (b ∷ rest)) b (eqb-true _ _ passed)
+    let passed : eqb (letter_of (kind_of (b ∷ rest))) (suc b) ≡ true = rw (ne, n) at t in
+    is_form (kind_of (b ∷ rest)) b (eqb-true _ _ passed)
 
-every-plain : (rest : List ℕ) → every (plainTest rest) 0 tableWidths ≡ true
-unfolding plainTest tableWidths
-every-plain rest = refl
+every_plain : (rest : List ℕ) → every (plain_test rest) 0 table_widths ≡ true
+unfolding plain_test table_widths
+every_plain rest = refl
 
-every-bad : (rest : List ℕ) → every (badTest rest) 0 tableWidths ≡ true
-unfolding badTest tableWidths
-every-bad rest = refl
+every_bad : (rest : List ℕ) → every (bad_test rest) 0 table_widths ≡ true
+unfolding bad_test table_widths
+every_bad rest = refl
 
-every-width : every widthTest 0 tableWidths ≡ true
-unfolding widthTest tableWidths
-every-width = refl
+every_width : every width_test 0 table_widths ≡ true
+unfolding width_test table_widths
+every_width = refl
 
-width-of : (b x : ℕ) → widthTest b x ≡ true → letterWidth b ≡ x
-unfolding widthTest
-width-of b x t = eqb-true (letterWidth b) x t
+width_of : (b x : ℕ) → width_test b x ≡ true → letter_width b ≡ x
+unfolding width_test
+width_of b x t = eqb-true (letter_width b) x t
 
-p-of : (e : VariableArrayTy) (rest : List ℕ) → kindOf (80 ∷ letter e ∷ rest) ≡ Is (P e)
-unfolding kindOf elementOf elementAmong firstElement
-p-of L rest = refl
-p-of X rest = refl
-p-of B rest = refl
-p-of I rest = refl
-p-of J rest = refl
-p-of K rest = refl
-p-of A rest = refl
-p-of E rest = refl
-p-of D rest = refl
-p-of C rest = refl
-p-of M rest = refl
+p_of : (e : VariableArrayTy) (rest : List ℕ) → kind_of (80 ∷ letter e ∷ rest) ≡ Is (P e)
+unfolding kind_of element_of element_among first_element
+p_of L rest = refl
+p_of X rest = refl
+p_of B rest = refl
+p_of I rest = refl
+p_of J rest = refl
+p_of K rest = refl
+p_of A rest = refl
+p_of E rest = refl
+p_of D rest = refl
+p_of C rest = refl
+p_of M rest = refl
 
-q-of : (e : VariableArrayTy) (rest : List ℕ) → kindOf (81 ∷ letter e ∷ rest) ≡ Is (Q e)
-unfolding kindOf elementOf elementAmong firstElement
-q-of L rest = refl
-q-of X rest = refl
-q-of B rest = refl
-q-of I rest = refl
-q-of J rest = refl
-q-of K rest = refl
-q-of A rest = refl
-q-of E rest = refl
-q-of D rest = refl
-q-of C rest = refl
-q-of M rest = refl
+q_of : (e : VariableArrayTy) (rest : List ℕ) → kind_of (81 ∷ letter e ∷ rest) ≡ Is (Q e)
+unfolding kind_of element_of element_among first_element
+q_of L rest = refl
+q_of X rest = refl
+q_of B rest = refl
+q_of I rest = refl
+q_of J rest = refl
+q_of K rest = refl
+q_of A rest = refl
+q_of E rest = refl
+q_of D rest = refl
+q_of C rest = refl
+q_of M rest = refl
 
-pub each-byte : (b : ℕ) → b < 256 → AsBefore b
-each-byte b h = record {
-  width = width-of b (tableWidth b) (passes widthTest every-width b h);
-  bad = λ z rest. bad-of rest b (tableWidth b) (passes (badTest rest) (every-bad rest) b h) z;
-  plain = λ z n rest. plain-of rest b (tableWidth b) (passes (plainTest rest) (every-plain rest) b h) z n;
-  p = λ e y rest. rw e (p-of y rest);
-  q = λ e y rest. rw e (q-of y rest);
+pub each_byte : (b : ℕ) → b < 256 → AsBefore b
+each_byte b h = record {
+  width = width_of b (table_width b) (passes width_test every_width b h);
+  bad = λ z rest. bad_of rest b (table_width b) (passes (bad_test rest) (every_bad rest) b h) z;
+  plain = λ z n rest. plain_of rest b (table_width b) (passes (plain_test rest) (every_plain rest) b h) z n;
+  p = λ e y rest. rw e (p_of y rest);
+  q = λ e y rest. rw e (q_of y rest);
 }

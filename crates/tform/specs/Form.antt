@@ -12,42 +12,42 @@ use Rattle.tform.specs.declared.parsing.Element.{Element}
 use Rattle.tform.specs.declared.parsing.Element.TheVariants as El
 use Rattle.tform.specs.declared.parsing.Kind.{Kind}
 use Rattle.tform.specs.declared.parsing.Kind.TheVariants.{Is, Unknown}
-use Rattle.tform.specs.Width.{letter, countOk}
+use Rattle.tform.specs.Width.{letter, count_ok}
 
 -- the count: no digits mean 1
-unfoldable pub repeatCount : List ℕ → ℕ
-repeatCount s = cond (eqb (front digit s) 0) 1 (decimal 0 (take (front digit s) s))
+unfoldable pub repeat_count : List ℕ → ℕ
+repeat_count s = cond (eqb (front digit s) 0) 1 (decimal 0 (take (front digit s) s))
 
 -- the type that a letter names among some types
-unfoldable pub elementAmong : ℕ → List VariableArrayTy → Element
-elementAmong b [] = El.Unknown
-elementAmong b (e ∷ es) = cond (eqb b (letter e)) (El.Is e) (elementAmong b es)
+unfoldable pub element_among : ℕ → List VariableArrayTy → Element
+element_among b [] = El.Unknown
+element_among b (e ∷ es) = cond (eqb b (letter e)) (El.Is e) (element_among b es)
 
 -- the type that a letter names
-unfoldable pub elementOf : ℕ → Element
-elementOf b =
-    elementAmong b (Ty.L ∷ Ty.X ∷ Ty.B ∷ Ty.I ∷ Ty.J ∷ Ty.K ∷ Ty.A ∷ Ty.E ∷ Ty.D ∷ Ty.C ∷ Ty.M ∷ [])
+unfoldable pub element_of : ℕ → Element
+element_of b =
+    element_among b (Ty.L ∷ Ty.X ∷ Ty.B ∷ Ty.I ∷ Ty.J ∷ Ty.K ∷ Ty.A ∷ Ty.E ∷ Ty.D ∷ Ty.C ∷ Ty.M ∷ [])
 
 -- the type that the next letter names
-unfoldable pub firstElement : List ℕ → Element
-firstElement [] = El.Unknown
-firstElement (b ∷ bs) = elementOf b
+unfoldable pub first_element : List ℕ → Element
+first_element [] = El.Unknown
+first_element (b ∷ bs) = element_of b
 
 -- the form with an element inside: of items, or of one of the two descriptors
-abbrev pub kindWith : (VariableArrayTy → TFormType) → Element → Kind
-kindWith form (El.Is e) = Is (form e)
-kindWith form El.Unknown = Unknown
+abbrev pub kind_with : (VariableArrayTy → TFormType) → Element → Kind
+kind_with form (El.Is e) = Is (form e)
+kind_with form El.Unknown = Unknown
 
 -- the form by its letters: P (80) and Q (81) are followed by the letter of their elements
-unfoldable pub kindOf : List ℕ → Kind
-kindOf [] = Unknown
-kindOf (b ∷ bs) = cond (eqb b 80) (kindWith P (firstElement bs)) (cond (eqb b 81) (kindWith Q (firstElement bs)) (kindWith Items (elementOf b)))
+unfoldable pub kind_of : List ℕ → Kind
+kind_of [] = Unknown
+kind_of (b ∷ bs) = cond (eqb b 80) (kind_with P (first_element bs)) (cond (eqb b 81) (kind_with Q (first_element bs)) (kind_with Items (element_of b)))
 
 -- a form with its count, which may be too large
 abbrev pub counted : ℕ → Kind → TForm
-counted n (Is f) = cond (countOk f n) (Valid f n) Invalid
+counted n (Is f) = cond (count_ok f n) (Valid f n) Invalid
 counted n Unknown = Invalid
 
 -- the form that a text is
-unfoldable pub formOf : List ℕ → TForm
-formOf s = counted (repeatCount s) (kindOf (drop (front digit s) s))
+unfoldable pub form_of : List ℕ → TForm
+form_of s = counted (repeat_count s) (kind_of (drop (front digit s) s))

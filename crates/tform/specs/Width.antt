@@ -14,8 +14,8 @@ among b (c ∷ cs) = eqb b c || among b cs
 
 -- the bytes of one item, by the form's letter: L, B, A 1; I 2; J, E 4; K, D, C 8; M 16; X, of which an item is one byte, 1; and of one
 -- descriptor, at P and Q. 0 for a byte that is no form's letter
-unfoldable pub letterWidth : ℕ → ℕ
-letterWidth b =
+unfoldable pub letter_width : ℕ → ℕ
+letter_width b =
     cond (among b (bytes "LBA")) 1
     (cond (among b (bytes "I")) 2
     (cond (among b (bytes "JE")) 4
@@ -40,10 +40,10 @@ letter C = 67
 letter M = 77
 
 -- the letter of a form: P is 80 and Q 81
-abbrev pub formLetter : TFormType → ℕ
-formLetter (Items e) = letter e
-formLetter (P e) = 80
-formLetter (Q e) = 81
+abbrev pub form_letter : TFormType → ℕ
+form_letter (Items e) = letter e
+form_letter (P e) = 80
+form_letter (Q e) = 81
 
 -- the items that a count stands for: of X, which are bits, one for each byte that they take, else as many as the count
 abbrev pub items : VariableArrayTy → ℕ → ℕ
@@ -60,21 +60,21 @@ items C n = n
 items M n = n
 
 -- the items of a field; of P and Q, which count descriptors, as many as the count: at 0 the field is empty
-abbrev pub fieldItems : TFormType → ℕ → ℕ
-fieldItems (Items e) n = items e n
-fieldItems (P e) n = n
-fieldItems (Q e) n = n
+abbrev pub field_items : TFormType → ℕ → ℕ
+field_items (Items e) n = items e n
+field_items (P e) n = n
+field_items (Q e) n = n
 
 -- the bytes of a field
-abbrev pub fieldBytes : TFormType → ℕ → ℕ
-fieldBytes f n = fieldItems f n * letterWidth (formLetter f)
+abbrev pub field_bytes : TFormType → ℕ → ℕ
+field_bytes f n = field_items f n * letter_width (form_letter f)
 
 -- the largest count of a form: 1 of P and Q, which have one descriptor or none
-abbrev pub countLimit : TFormType → ℕ
-countLimit (Items e) = 8388608
-countLimit (P e) = 1
-countLimit (Q e) = 1
+abbrev pub count_limit : TFormType → ℕ
+count_limit (Items e) = 8388608
+count_limit (P e) = 1
+count_limit (Q e) = 1
 
 -- whether a count is within it
-abbrev pub countOk : TFormType → ℕ → Bool
-countOk f n = leb n (countLimit f)
+abbrev pub count_ok : TFormType → ℕ → Bool
+count_ok f n = leb n (count_limit f)

@@ -4,8 +4,8 @@
 mod parsing;
 
 ghost use Rattle.std.specs.Prelude.{◌≡◌};
-ghost use Rattle.tform.specs.Width.{letter, formLetter, letterWidth, items, fieldItems, fieldBytes, countOk};
-ghost use Rattle.tform.specs.Form.{counted, formOf};
+ghost use Rattle.tform.specs.Width.{letter, form_letter, letter_width, items, field_items, field_bytes, count_ok};
+ghost use Rattle.tform.specs.Form.{counted, form_of};
 
 use parsing::Kind;
 
@@ -42,9 +42,9 @@ pub enum TForm {
 }
 
 // The bytes of one item, or of one descriptor, by the form's letter; 0 for any other byte.
-#[tactic(auto, unfolding(crate::specs::Width::letterWidth, crate::specs::Width::among, ascii::specs::Text::bytes))]
+#[tactic(auto, unfolding(crate::specs::Width::letter_width, crate::specs::Width::among, ascii::specs::Text::bytes))]
 pub fn item_width(letter: u8) -> u8
-    ensures { result ≡ letterWidth letter }
+    ensures { result ≡ letter_width letter }
 {
     match letter {
         b'L' | b'X' | b'B' | b'A' => 1,
@@ -77,7 +77,7 @@ pub fn letter(ty: VariableArrayTy) -> u8
 
 // The letter of a form.
 pub fn form_letter(form: TFormType) -> u8
-    ensures { result ≡ formLetter form }
+    ensures { result ≡ form_letter form }
 {
     match form {
         TFormType::Items(ty) => letter(ty),
@@ -107,7 +107,7 @@ pub fn item_count(ty: VariableArrayTy, count: u64) -> u64
 
 // How many items a field has. P and Q count descriptors: of count 0 there is none.
 pub fn field_items(form: TFormType, count: u32) -> u64
-    ensures { result ≡ fieldItems form count }
+    ensures { result ≡ field_items form count }
 {
     match form {
         TFormType::Items(ty) => item_count(ty, count as u64),
@@ -117,7 +117,7 @@ pub fn field_items(form: TFormType, count: u32) -> u64
 
 // The bytes of a field in a row. With the items taken first the cell read's pass is slower (docs/SPEED.md).
 pub fn num_bytes_field(form: TFormType, count: u32) -> u64
-    ensures { result ≡ fieldBytes form count }
+    ensures { result ≡ field_bytes form count }
 {
     let width = item_width(form_letter(form)) as u64;
     field_items(form, count) * width
@@ -126,7 +126,7 @@ pub fn num_bytes_field(form: TFormType, count: u32) -> u64
 // Whether a count is within its limit: a field of P or Q is one descriptor or none. A count that every form may have is
 // seen first, so that most columns need no look at the form.
 pub fn count_ok(form: TFormType, count: u32) -> bool
-    ensures { result ≡ countOk form count }
+    ensures { result ≡ count_ok form count }
 {
     if count <= 1 {
         return true;
@@ -151,7 +151,7 @@ fn counted(kind: Kind, count: u32) -> TForm
 
 // The form that a text is: digits, a letter, and a rest that is ignored.
 pub fn parse_tform(text: &[u8]) -> TForm
-    ensures { result ≡ formOf text.now }
+    ensures { result ≡ form_of text.now }
 {
     let digits = ascii::leading_digits(text);
     let count = parsing::repeat_count(text, digits);

@@ -2,7 +2,7 @@
 ghost use Rattle.std.specs.Prelude.{◌≡◌, cond, ◌≤◌, min, eqb, take};
 ghost use Rattle.ascii.specs.Text.{front, digit, decimal};
 ghost use Rattle.tform.specs.declared.TFormType.TheVariants.{Items, P, Q};
-ghost use Rattle.tform.specs.Form.{elementOf, firstElement, kindWith, kindOf};
+ghost use Rattle.tform.specs.Form.{element_of, first_element, kind_with, kind_of};
 
 use super::{TFormType, VariableArrayTy};
 use ascii::Found;
@@ -49,9 +49,9 @@ pub fn repeat_count(text: &[u8], digits: usize) -> u32
 
 // It stands alone in what is compiled: each copy would have tables of its own in read-only memory.
 #[inline(never)]
-#[tactic(auto, unfolding(crate::specs::Form::elementOf, crate::specs::Form::elementAmong))]
+#[tactic(auto, unfolding(crate::specs::Form::element_of, crate::specs::Form::element_among))]
 fn element_of(letter: u8) -> Element
-    ensures { result ≡ elementOf letter }
+    ensures { result ≡ element_of letter }
 {
     match letter {
         b'L' => Element::Is(VariableArrayTy::L),
@@ -70,7 +70,7 @@ fn element_of(letter: u8) -> Element
 }
 
 fn first_element(text: &[u8]) -> Element
-    ensures { result ≡ firstElement text.now }
+    ensures { result ≡ first_element text.now }
 {
     if text.len() == 0 {
         return Element::Unknown;
@@ -79,7 +79,7 @@ fn first_element(text: &[u8]) -> Element
 }
 
 fn items_kind(element: Element) -> Kind
-    ensures { result ≡ kindWith Items element }
+    ensures { result ≡ kind_with Items element }
 {
     match element {
         Element::Is(ty) => Kind::Is(TFormType::Items(ty)),
@@ -88,7 +88,7 @@ fn items_kind(element: Element) -> Kind
 }
 
 fn p_kind(element: Element) -> Kind
-    ensures { result ≡ kindWith P element }
+    ensures { result ≡ kind_with P element }
 {
     match element {
         Element::Is(ty) => Kind::Is(TFormType::P(ty)),
@@ -97,7 +97,7 @@ fn p_kind(element: Element) -> Kind
 }
 
 fn q_kind(element: Element) -> Kind
-    ensures { result ≡ kindWith Q element }
+    ensures { result ≡ kind_with Q element }
 {
     match element {
         Element::Is(ty) => Kind::Is(TFormType::Q(ty)),
@@ -107,7 +107,7 @@ fn q_kind(element: Element) -> Kind
 
 // The form by the letters after the digits.
 pub fn kind_of(text: &[u8]) -> Kind
-    ensures { result ≡ kindOf text.now }
+    ensures { result ≡ kind_of text.now }
 {
     if text.len() == 0 {
         return Kind::Unknown;

@@ -9,16 +9,16 @@ use lib.Dec.{leb, ltb}
 use lib.ListN.{length, get_or, take, drop}
 use lib.Seq.{take-append_seam}
 use borrow.Author.Tests.{ltb-true}
-use Rattle.ascii.proofs.Cases.{by-test}
+use Rattle.ascii.proofs.Cases.{by_test}
 use Rattle.layout.specs.declared.BinTable.{BinTable}
 use Rattle.cell.specs.declared.DataValue.{DataValue}
 use Rattle.cell.specs.declared.Cell.{Cell}
 use Rattle.walk.specs.declared.TableData.{TableData}
 use Rattle.walk.specs.declared.Entry.{Entry}
 use Rattle.walk.specs.declared.Entry.TheVariants as E
-use Rattle.walk.specs.Plain.{columnOf, fieldOf, cellOf, cells, entriesOf, chosen, columnEntries, columnsEntries, rowEntries}
-use Rattle.walk.specs.Walk.{Step, readCell, readRow, seek, State, Outcome, Reply, gotCell, gotRow, sought, atEnd, refused, Next, entryAt, noEntry, Gathered, allCells, outside, before, gather, next, nextEntry, rest, cellOutcome, rowOutcome, walkStep}
-use Rattle.walk.specs.Step.{belongs, stateOf, Result, cursorStep}
+use Rattle.walk.specs.Plain.{column_of, field_of, cell_of, cells, entries_of, chosen, column_entries, columns_entries, row_entries}
+use Rattle.walk.specs.Walk.{Step, read_cell, read_row, seek, State, Outcome, Reply, got_cell, got_row, sought, at_end, refused, Next, entry_at, no_entry, Gathered, all_cells, outside, before, gather, next, next_entry, rest, cell_outcome, row_outcome, walk_step}
+use Rattle.walk.specs.Step.{belongs, state_of, Result, cursor_step}
 
 module _ (P : Cell → Type 0) where
   abbrev OfEntry : Entry → Type 0
@@ -37,44 +37,44 @@ module _ (P : Cell → Type 0) where
 
   -- P of the cells that a step hands out: the one of its answer, or those at the front of the list
   abbrev pub OfReply : List Cell → Reply → Type 0
-  OfReply list (gotCell c) = P c
-  OfReply list (gotRow k) = OfCells (take k list)
+  OfReply list (got_cell c) = P c
+  OfReply list (got_row k) = OfCells (take k list)
   OfReply list sought = Unit {0}
-  OfReply list atEnd = Unit {0}
+  OfReply list at_end = Unit {0}
   OfReply list (refused n p) = Unit {0}
 
   -- ---- the plain list
 
-  append-all : (es fs : List Entry) → OfEntries es → OfEntries fs → OfEntries (es ++ fs)
-  append-all [] fs h k = k
-  append-all (e ∷ es) fs h k = (h.0, append-all es fs h.1 k)
+  append_all : (es fs : List Entry) → OfEntries es → OfEntries fs → OfEntries (es ++ fs)
+  append_all [] fs h k = k
+  append_all (e ∷ es) fs h k = (h.0, append_all es fs h.1 k)
 
-  pub cells-all : (r c : ℕ) (v : ℕ → DataValue) (i n : ℕ) → ((k : ℕ) → i ≤ k → k < i + n → P (cellOf r c k (v k))) → OfEntries (cells r c v i n)
+  pub cells_all : (r c : ℕ) (v : ℕ → DataValue) (i n : ℕ) → ((k : ℕ) → i ≤ k → k < i + n → P (cell_of r c k (v k))) → OfEntries (cells r c v i n)
   unfolding cells
-  cells-all r c v i zero h = tt
-  cells-all r c v i (suc n) h = (h i (omega arith) (omega arith), cells-all r c v (suc i) n (λ k u w. h k (omega arith) (omega arith)))
+  cells_all r c v i zero h = tt
+  cells_all r c v i (suc n) h = (h i (omega arith) (omega arith), cells_all r c v (suc i) n (λ k u w. h k (omega arith) (omega arith)))
 
   module _ (l : BinTable) (a : List ℕ) (choice : ℕ) (heap : Bool)
-      (each : (r c : ℕ) → r < l.naxis2 → c < l.tfields → chosen choice c ≡ true → OfEntries (entriesOf (columnOf l c) a r c (fieldOf l a heap r c))) where
-    columns-all : (r c n : ℕ) → r < l.naxis2 → c + n ≤ l.tfields → OfEntries (columnsEntries l a choice heap r c n)
-    unfolding columnsEntries columnEntries
-    columns-all r c zero hr h = tt
-    columns-all r c (suc n) hr h =
-        append-all (columnEntries l a choice heap r c) (columnsEntries l a choice heap r (suc c) n)
-        (by-test OfEntries (chosen choice c) (λ t. each r c hr (omega arith) t) (λ t. tt))
-        (columns-all r (suc c) n hr (omega arith))
+      (each : (r c : ℕ) → r < l.naxis2 → c < l.tfields → chosen choice c ≡ true → OfEntries (entries_of (column_of l c) a r c (field_of l a heap r c))) where
+    columns_all : (r c n : ℕ) → r < l.naxis2 → c + n ≤ l.tfields → OfEntries (columns_entries l a choice heap r c n)
+    unfolding columns_entries column_entries
+    columns_all r c zero hr h = tt
+    columns_all r c (suc n) hr h =
+        append_all (column_entries l a choice heap r c) (columns_entries l a choice heap r (suc c) n)
+        (by_test OfEntries (chosen choice c) (λ t. each r c hr (omega arith) t) (λ t. tt))
+        (columns_all r (suc c) n hr (omega arith))
 
     -- from the fields to the rows
-    pub rows_all : (r : ℕ) → OfEntries (rowEntries l a choice heap r)
-    unfolding rowEntries
-    rows_all r = by-test OfEntries (ltb r l.naxis2) (λ t. columns-all r 0 l.tfields (ltb-true r l.naxis2 t) (omega arith)) (λ t. tt)
+    pub rows_all : (r : ℕ) → OfEntries (row_entries l a choice heap r)
+    unfolding row_entries
+    rows_all r = by_test OfEntries (ltb r l.naxis2) (λ t. columns_all r 0 l.tfields (ltb-true r l.naxis2 t) (omega arith)) (λ t. tt)
 
   -- ---- the walk
 
-  getD-all : (es : List Entry) (k : ℕ) (d : Entry) → OfEntries es → OfEntry d → OfEntry (get_or es k d)
-  getD-all [] k d h q = q
-  getD-all (e ∷ es) zero d h q = h.0
-  getD-all (e ∷ es) (suc k) d h q = getD-all es k d h.1 q
+  get_d_all : (es : List Entry) (k : ℕ) (d : Entry) → OfEntries es → OfEntry d → OfEntry (get_or es k d)
+  get_d_all [] k d h q = q
+  get_d_all (e ∷ es) zero d h q = h.0
+  get_d_all (e ∷ es) (suc k) d h q = get_d_all es k d h.1 q
 
   drop_all : (k : ℕ) (es : List Entry) → OfEntries es → OfEntries (drop k es)
   drop_all zero es h = h
@@ -82,56 +82,56 @@ module _ (P : Cell → Type 0) where
   drop_all (suc k) (e ∷ es) h = drop_all k es h.1
 
   abbrev OfGathered : Gathered → Type 0
-  OfGathered (allCells cs) = OfCells cs
+  OfGathered (all_cells cs) = OfCells cs
   OfGathered (outside k) = Unit {0}
 
-  before-all : (c : Cell) (g : Gathered) → P c → OfGathered g → OfGathered (before c g)
-  before-all c (allCells cs) h k = (h, k)
-  before-all c (outside k) h q = tt
+  before_all : (c : Cell) (g : Gathered) → P c → OfGathered g → OfGathered (before c g)
+  before_all c (all_cells cs) h k = (h, k)
+  before_all c (outside k) h q = tt
 
-  gather-all : (es : List Entry) → OfEntries es → OfGathered (gather es)
+  gather_all : (es : List Entry) → OfEntries es → OfGathered (gather es)
   unfolding gather
-  gather-all [] h = tt
-  gather-all (E.OutsideHeap k ∷ es) h = tt
-  gather-all (E.Cell c ∷ es) h = before-all c (gather es) h.0 (gather-all es h.1)
+  gather_all [] h = tt
+  gather_all (E.OutsideHeap k ∷ es) h = tt
+  gather_all (E.Cell c ∷ es) h = before_all c (gather es) h.0 (gather_all es h.1)
 
   module _ (rows : ℕ → List Entry) (n : ℕ) (all : (r : ℕ) → OfEntries (rows r)) where
     abbrev OfNext : Next → Type 0
-    OfNext noEntry = Unit {0}
-    OfNext (entryAt r p e) = OfEntry e
+    OfNext no_entry = Unit {0}
+    OfNext (entry_at r p e) = OfEntry e
 
-    next-all : (k r p : ℕ) → OfNext (next rows n k r p)
+    next_all : (k r p : ℕ) → OfNext (next rows n k r p)
     unfolding next
-    next-all zero r p = tt
-    next-all (suc k) r p =
-        by-test OfNext (ltb p (length (rows r))) (λ t. getD-all (rows r) p (E.OutsideHeap 0) (all r) tt) (λ t. next-all k (suc r) _)
+    next_all zero r p = tt
+    next_all (suc k) r p =
+        by_test OfNext (ltb p (length (rows r))) (λ t. get_d_all (rows r) p (E.OutsideHeap 0) (all r) tt) (λ t. next_all k (suc r) _)
 
     abbrev OfOutcome : Outcome → Type 0
     OfOutcome o = OfReply o.list o.reply
 
-    cell-all : (s : State) (x : Next) → OfNext x → OfOutcome (cellOutcome rows n s x)
-    cell-all s noEntry h = tt
-    cell-all s (entryAt r p (E.Cell c)) h = h
-    cell-all s (entryAt r p (E.OutsideHeap k)) h = tt
+    cell_all : (s : State) (x : Next) → OfNext x → OfOutcome (cell_outcome rows n s x)
+    cell_all s no_entry h = tt
+    cell_all s (entry_at r p (E.Cell c)) h = h
+    cell_all s (entry_at r p (E.OutsideHeap k)) h = tt
 
-    row-all : (s : State) (list : List Cell) (g : Gathered) → OfGathered g → OfOutcome (rowOutcome rows n s list g)
-    row-all s list (outside k) h = tt
-    row-all s list (allCells cs) h =
-        by-test OfOutcome (leb (length cs) (length list)) (λ t. rw (take-append_seam cs (drop (length cs) list)) h) (λ t. tt)
+    row_all : (s : State) (list : List Cell) (g : Gathered) → OfGathered g → OfOutcome (row_outcome rows n s list g)
+    row_all s list (outside k) h = tt
+    row_all s list (all_cells cs) h =
+        by_test OfOutcome (leb (length cs) (length list)) (λ t. rw (take-append_seam cs (drop (length cs) list)) h) (λ t. tt)
 
-    walk-all : (s : State) (x : Step) → OfOutcome (walkStep rows n s x)
-    unfolding walkStep
-    walk-all s readCell = cell-all s (nextEntry rows n s) (next-all _ s.row s.passed)
-    walk-all s (readRow list) =
-        by-test OfOutcome (ltb s.row n)
-        (λ t. row-all s list (rest rows n s) (gather-all (drop s.passed (rows s.row)) (drop_all s.passed (rows s.row) (all s.row))))
+    walk_all : (s : State) (x : Step) → OfOutcome (walk_step rows n s x)
+    unfolding walk_step
+    walk_all s read_cell = cell_all s (next_entry rows n s) (next_all _ s.row s.passed)
+    walk_all s (read_row list) =
+        by_test OfOutcome (ltb s.row n)
+        (λ t. row_all s list (rest rows n s) (gather_all (drop s.passed (rows s.row)) (drop_all s.passed (rows s.row) (all s.row))))
         (λ t. tt)
-    walk-all s (seek r) = by-test OfOutcome (ltb r n) (λ t. tt) (λ t. tt)
+    walk_all s (seek r) = by_test OfOutcome (ltb r n) (λ t. tt) (λ t. tt)
 
   -- of every step of a cursor, whatever layout, area and cursor
-  pub step-all : (l : BinTable) (a : List ℕ) (c : TableData) (x : Step) → ((r : ℕ) → OfEntries (rowEntries l a c.choice c.heap r))
-      → OfReply (cursorStep l a c x).list (cursorStep l a c x).reply
-  unfolding cursorStep
-  step-all l a c x all =
-      by-test (λ (o : Result). OfReply o.list o.reply) (belongs l a c)
-      (λ t. walk-all (rowEntries l a c.choice c.heap) l.naxis2 all (stateOf c) x) (λ t. tt)
+  pub step_all : (l : BinTable) (a : List ℕ) (c : TableData) (x : Step) → ((r : ℕ) → OfEntries (row_entries l a c.choice c.heap r))
+      → OfReply (cursor_step l a c x).list (cursor_step l a c x).reply
+  unfolding cursor_step
+  step_all l a c x all =
+      by_test (λ (o : Result). OfReply o.list o.reply) (belongs l a c)
+      (λ t. walk_all (row_entries l a c.choice c.heap) l.naxis2 all (state_of c) x) (λ t. tt)

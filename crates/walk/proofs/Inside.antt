@@ -10,27 +10,27 @@ use native.Mathlib.Omega.{arith}
 use lib.ListN.{length, get_or, take, length-append}
 use lib.Dec.{eqb, leb, ltb}
 use borrow.Author.Tests.{leb-true, eqb-true, ltb-true}
-use Rattle.ascii.proofs.Cases.{by-test, both}
-use Rattle.tform.specs.Width.{countOk}
+use Rattle.ascii.proofs.Cases.{by_test, both}
+use Rattle.tform.specs.Width.{count_ok}
 use Rattle.layout.specs.declared.Column.{Column}
 use Rattle.layout.specs.declared.BinTable.{BinTable}
-use Rattle.layout.specs.Layout.{dataLimit, noColumn, columnBytes, columnsOf, mainSize, dataSize, columnsOk, layoutOk}
+use Rattle.layout.specs.Layout.{data_limit, no_column, column_bytes, columns_of, main_size, data_size, columns_ok, layout_ok}
 use Rattle.cell.specs.Field.{ItemsInside}
-use Rattle.cell.proofs.Inside.{field-inside, inside-wider, size-bound}
+use Rattle.cell.proofs.Inside.{field_inside, inside_wider, size_bound}
 use Rattle.walk.specs.declared.Entry.{Entry}
-use Rattle.walk.specs.Plain.{columnOf, fieldAt, fieldOf, chosen, columnSize, columnsEntries, rowEntries}
+use Rattle.walk.specs.Plain.{column_of, field_at, field_of, chosen, column_size, columns_entries, row_entries}
 use Rattle.walk.specs.Step.{fits}
-use Rattle.walk.proofs.Laws.{column-length}
+use Rattle.walk.proofs.Laws.{column_length}
 
 -- the limits and sums of a layout, one by one
 pub record Limits (l : BinTable) : Type 0 where
-  pub row-bytes : l.naxis1 ≤ 1048576
+  pub row_bytes : l.naxis1 ≤ 1048576
   pub rows : l.naxis2 ≤ 16777216
-  pub heap-bytes : l.pcount ≤ 2147483647
+  pub heap_bytes : l.pcount ≤ 2147483647
   pub columns : l.tfields ≤ 64
-  pub heap-from : mainSize l ≤ l.theap
-  pub heap-to : l.theap ≤ dataSize l
-  pub sums : columnsOk l.naxis1 0 (columnsOf l) ≡ true
+  pub heap_from : main_size l ≤ l.theap
+  pub heap_to : l.theap ≤ data_size l
+  pub sums : columns_ok l.naxis1 0 (columns_of l) ≡ true
 
 and_l : (t u : Bool) → (t && u) ≡ true → t ≡ true
 and_l t u e = (both t u e).0
@@ -38,101 +38,101 @@ and_l t u e = (both t u e).0
 and_r : (t u : Bool) → (t && u) ≡ true → u ≡ true
 and_r t u e = (both t u e).1
 
-pub limits : (l : BinTable) → layoutOk l ≡ true → Limits l
-unfolding layoutOk
+pub limits : (l : BinTable) → layout_ok l ≡ true → Limits l
+unfolding layout_ok
 limits l e =
     record {
-      row-bytes = leb-true _ _ (search (and_l, and_r) depth 9);
+      row_bytes = leb-true _ _ (search (and_l, and_r) depth 9);
       rows = leb-true _ _ (search (and_l, and_r) depth 9);
-      heap-bytes = leb-true _ _ (search (and_l, and_r) depth 9);
+      heap_bytes = leb-true _ _ (search (and_l, and_r) depth 9);
       columns = leb-true _ _ (search (and_l, and_r) depth 9);
-      heap-from = leb-true _ _ (search (and_l, and_r) depth 9);
-      heap-to = leb-true _ _ (search (and_l, and_r) depth 9);
+      heap_from = leb-true _ _ (search (and_l, and_r) depth 9);
+      heap_to = leb-true _ _ (search (and_l, and_r) depth 9);
       sums = search (and_l, and_r) depth 9;
     }
 
-pub fits-layout : (l : BinTable) (a : List ℕ) → fits l a ≡ true → layoutOk l ≡ true
+pub fits_layout : (l : BinTable) (a : List ℕ) → fits l a ≡ true → layout_ok l ≡ true
 unfolding fits
-fits-layout l a e = (both (layoutOk l) (leb (dataSize l) (length a)) e).0
+fits_layout l a e = (both (layout_ok l) (leb (data_size l) (length a)) e).0
 
-pub fits-limits : (l : BinTable) (a : List ℕ) → fits l a ≡ true → Limits l
-fits-limits l a e = limits l (fits-layout l a e)
+pub fits_limits : (l : BinTable) (a : List ℕ) → fits l a ≡ true → Limits l
+fits_limits l a e = limits l (fits_layout l a e)
 
 -- ---- the bytes of a field
 
 module _ (end : ℕ) where
-  in_order : (at : ℕ) (c : Column) (cs : List Column) → columnsOk end at (c ∷ cs) ≡ true
-      → (c.start ≡ at) × (columnsOk end (at + columnBytes c) cs ≡ true)
-  unfolding columnsOk
+  in_order : (at : ℕ) (c : Column) (cs : List Column) → columns_ok end at (c ∷ cs) ≡ true
+      → (c.start ≡ at) × (columns_ok end (at + column_bytes c) cs ≡ true)
+  unfolding columns_ok
   in_order at c cs e =
-      let rest = columnsOk end (at + columnBytes c) cs in
-      let q = both (eqb c.start at) rest (both (countOk c.form c.count) (eqb c.start at && rest) e).1 in
+      let rest = columns_ok end (at + column_bytes c) cs in
+      let q = both (eqb c.start at) rest (both (count_ok c.form c.count) (eqb c.start at && rest) e).1 in
       (eqb-true c.start at q.0, q.1)
 
-  starts-below : (at : ℕ) (cs : List Column) → columnsOk end at cs ≡ true → at ≤ end
-  unfolding columnsOk
-  starts-below at [] e = omega (arith, eqb-true at end e)
-  starts-below at (c ∷ cs) e = omega (arith, starts-below (at + columnBytes c) cs (in_order at c cs e).1)
+  starts_below : (at : ℕ) (cs : List Column) → columns_ok end at cs ≡ true → at ≤ end
+  unfolding columns_ok
+  starts_below at [] e = omega (arith, eqb-true at end e)
+  starts_below at (c ∷ cs) e = omega (arith, starts_below (at + column_bytes c) cs (in_order at c cs e).1)
 
-  column-inside : (at : ℕ) (cs : List Column) (n k : ℕ) → columnsOk end at (take n cs) ≡ true → k < n
-      → (get_or cs k noColumn).start + columnBytes (get_or cs k noColumn) ≤ end
-  unfolding columnsOk
-  column-inside at [] n k e h = omega arith
-  column-inside at (c ∷ cs) zero k e h = absurd (not-suc-le-zero h)
-  column-inside at (c ∷ cs) (suc n) zero e h =
-      let q = in_order at c (take n cs) e in omega (arith, q.0, starts-below (at + columnBytes c) (take n cs) q.1)
-  column-inside at (c ∷ cs) (suc n) (suc k) e h = column-inside (at + columnBytes c) cs n k (in_order at c (take n cs) e).1 (le_of_suc-le-suc h)
+  column_inside : (at : ℕ) (cs : List Column) (n k : ℕ) → columns_ok end at (take n cs) ≡ true → k < n
+      → (get_or cs k no_column).start + column_bytes (get_or cs k no_column) ≤ end
+  unfolding columns_ok
+  column_inside at [] n k e h = omega arith
+  column_inside at (c ∷ cs) zero k e h = absurd (not-suc-le-zero h)
+  column_inside at (c ∷ cs) (suc n) zero e h =
+      let q = in_order at c (take n cs) e in omega (arith, q.0, starts_below (at + column_bytes c) (take n cs) q.1)
+  column_inside at (c ∷ cs) (suc n) (suc k) e h = column_inside (at + column_bytes c) cs n k (in_order at c (take n cs) e).1 (le_of_suc-le-suc h)
 
-module _ (l : BinTable) (ok : layoutOk l ≡ true) where
+module _ (l : BinTable) (ok : layout_ok l ≡ true) where
   -- a column lies inside the row
-  pub column-in-row : (c : ℕ) → c < l.tfields → (columnOf l c).start + columnBytes (columnOf l c) ≤ l.naxis1
-  column-in-row c h = column-inside l.naxis1 0 l.columns l.tfields c (limits l ok).sums h
+  pub column_in_row : (c : ℕ) → c < l.tfields → (column_of l c).start + column_bytes (column_of l c) ≤ l.naxis1
+  column_in_row c h = column_inside l.naxis1 0 l.columns l.tfields c (limits l ok).sums h
 
   -- a row lies inside the main table
-  pub row-in-main : (r : ℕ) → r < l.naxis2 → r * l.naxis1 + l.naxis1 ≤ mainSize l
-  row-in-main r h = omega (arith, mul-le-mul_right l.naxis1 h)
+  pub row_in_main : (r : ℕ) → r < l.naxis2 → r * l.naxis1 + l.naxis1 ≤ main_size l
+  row_in_main r h = omega (arith, mul-le-mul_right l.naxis1 h)
 
   -- and so does a field
-  pub field-in-main : (r c : ℕ) → r < l.naxis2 → c < l.tfields → fieldAt l r c + columnBytes (columnOf l c) ≤ mainSize l
-  field-in-main r c hr hc = omega (arith, column-in-row c hc, row-in-main r hr)
+  pub field_in_main : (r c : ℕ) → r < l.naxis2 → c < l.tfields → field_at l r c + column_bytes (column_of l c) ≤ main_size l
+  field_in_main r c hr hc = omega (arith, column_in_row c hc, row_in_main r hr)
 
   -- the items of a field lie inside the data
-  pub items-in-data : (a : List ℕ) (heap : Bool) (r c : ℕ) → r < l.naxis2 → c < l.tfields → ItemsInside (dataSize l) (fieldOf l a heap r c)
-  unfolding fieldOf
-  items-in-data a heap r c hr hc =
-      field-inside a (fieldAt l r c) (columnOf l c) heap l.theap (dataSize l) (omega (arith, field-in-main r c hr hc))
+  pub items_in_data : (a : List ℕ) (heap : Bool) (r c : ℕ) → r < l.naxis2 → c < l.tfields → ItemsInside (data_size l) (field_of l a heap r c)
+  unfolding field_of
+  items_in_data a heap r c hr hc =
+      field_inside a (field_at l r c) (column_of l c) heap l.theap (data_size l) (omega (arith, field_in_main r c hr hc))
 
-  pub data-bound : dataSize l ≤ dataLimit
-  data-bound =
+  pub data_bound : data_size l ≤ data_limit
+  data_bound =
       let lim = limits l ok in
-      omega (arith, lim.heap-bytes, mul-le-mul_right l.naxis2 lim.row-bytes, mul-le-mul_left 1048576 lim.rows)
+      omega (arith, lim.heap_bytes, mul-le-mul_right l.naxis2 lim.row_bytes, mul-le-mul_left 1048576 lim.rows)
 
   -- so no place of an item wraps
-  pub items-bound : (a : List ℕ) (heap : Bool) (r c : ℕ) → r < l.naxis2 → c < l.tfields → ItemsInside dataLimit (fieldOf l a heap r c)
-  items-bound a heap r c hr hc = inside-wider (dataSize l) dataLimit (fieldOf l a heap r c) data-bound (items-in-data a heap r c hr hc)
+  pub items_bound : (a : List ℕ) (heap : Bool) (r c : ℕ) → r < l.naxis2 → c < l.tfields → ItemsInside data_limit (field_of l a heap r c)
+  items_bound a heap r c hr hc = inside_wider (data_size l) data_limit (field_of l a heap r c) data_bound (items_in_data a heap r c hr hc)
 
   -- ---- how many entries there are at most
 
   module _ (a : List ℕ) (choice : ℕ) (heap : Bool) (r : ℕ) (hr : r < l.naxis2) where
-    pub column-bound : (c : ℕ) → c < l.tfields → columnSize l a choice heap r c ≤ dataSize l + 1
-    column-bound c h =
-        by-test (λ (k : ℕ). k ≤ dataSize l + 1) (chosen choice c)
-        (λ t. size-bound (dataSize l) (fieldOf l a heap r c) (items-in-data a heap r c hr h)) (λ t. omega arith)
+    pub column_bound : (c : ℕ) → c < l.tfields → column_size l a choice heap r c ≤ data_size l + 1
+    column_bound c h =
+        by_test (λ (k : ℕ). k ≤ data_size l + 1) (chosen choice c)
+        (λ t. size_bound (data_size l) (field_of l a heap r c) (items_in_data a heap r c hr h)) (λ t. omega arith)
 
-    columns-bound : (c n : ℕ) → c + n ≤ l.tfields → length (columnsEntries l a choice heap r c n) ≤ n * (dataSize l + 1)
-    unfolding columnsEntries
-    columns-bound c zero h = omega arith
-    columns-bound c (suc n) h =
-        let q : length (columnsEntries l a choice heap r (suc c) n) ≤ n * (dataSize l + 1) = columns-bound (suc c) n (omega arith) in
-        let p : columnSize l a choice heap r c ≤ dataSize l + 1 = column-bound c (omega arith) in
-        rw (length-append, column-length) (omega (arith, p, q))
+    columns_bound : (c n : ℕ) → c + n ≤ l.tfields → length (columns_entries l a choice heap r c n) ≤ n * (data_size l + 1)
+    unfolding columns_entries
+    columns_bound c zero h = omega arith
+    columns_bound c (suc n) h =
+        let q : length (columns_entries l a choice heap r (suc c) n) ≤ n * (data_size l + 1) = columns_bound (suc c) n (omega arith) in
+        let p : column_size l a choice heap r c ≤ data_size l + 1 = column_bound c (omega arith) in
+        rw (length-append, column_length) (omega (arith, p, q))
 
   -- a row's entries, and one more, fit 64 bits
-  pub row-bound : (a : List ℕ) (choice : ℕ) (heap : Bool) (r : ℕ) → length (rowEntries l a choice heap r) ≤ 1126037345796096
-  unfolding rowEntries
-  row-bound a choice heap r =
-      by-test (λ (es : List Entry). length es ≤ 1126037345796096) (ltb r l.naxis2)
+  pub row_bound : (a : List ℕ) (choice : ℕ) (heap : Bool) (r : ℕ) → length (row_entries l a choice heap r) ≤ 1126037345796096
+  unfolding row_entries
+  row_bound a choice heap r =
+      by_test (λ (es : List Entry). length es ≤ 1126037345796096) (ltb r l.naxis2)
       (λ t.
-      le_trans (columns-bound a choice heap r (ltb-true r l.naxis2 t) 0 l.tfields (omega arith))
-      (le_trans (mul-le-mul_right (dataSize l + 1) (limits l ok).columns) (omega (arith, data-bound))))
+      le_trans (columns_bound a choice heap r (ltb-true r l.naxis2 t) 0 l.tfields (omega arith))
+      (le_trans (mul-le-mul_right (data_size l + 1) (limits l ok).columns) (omega (arith, data_bound))))
       (λ t. omega arith)

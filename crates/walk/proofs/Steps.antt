@@ -9,51 +9,51 @@ use borrow.Author.Tests.{lt-ltb}
 use Rattle.ascii.proofs.Cases.{both}
 use Rattle.layout.specs.declared.BinTable.{BinTable}
 use Rattle.walk.specs.declared.TableData.{TableData}
-use Rattle.walk.specs.Plain.{rowEntries}
-use Rattle.walk.specs.Walk.{Step, readCell, seek, lent, refused, start, Next, next, cellOutcome, seekOutcome, placeOk, walkStep}
-use Rattle.walk.specs.Step.{fits, choiceOk, belongs, stateOf, cursorAt, Selection, wanted, choiceOf, opened, notOpened, openWith, withCursor, cursorStep}
-use Rattle.walk.proofs.Choice.{choice-any, chosen-of, chosen-some, choice-none}
+use Rattle.walk.specs.Plain.{row_entries}
+use Rattle.walk.specs.Walk.{Step, read_cell, seek, lent, refused, start, Next, next, cell_outcome, seek_outcome, place_ok, walk_step}
+use Rattle.walk.specs.Step.{fits, choice_ok, belongs, state_of, cursor_at, Selection, wanted, choice_of, opened, not_opened, open_with, with_cursor, cursor_step}
+use Rattle.walk.proofs.Choice.{choice_any, chosen_of, chosen_some, choice_none}
 
 -- ---- opening
 
-pub open-fit : (l : BinTable) (a : List ℕ) (sel : Selection) (heap : Bool) → fits l a ≡ true
-    → openWith l a sel heap ≡ cond (ltb 0 (choiceOf l sel)) (opened (cursorAt (choiceOf l sel) heap start)) (notOpened 11)
-unfolding openWith
-open-fit l a sel heap e = rw (e, choice-any l sel)
+pub open_fit : (l : BinTable) (a : List ℕ) (sel : Selection) (heap : Bool) → fits l a ≡ true
+    → open_with l a sel heap ≡ cond (ltb 0 (choice_of l sel)) (opened (cursor_at (choice_of l sel) heap start)) (not_opened 11)
+unfolding open_with
+open_fit l a sel heap e = rw (e, choice_any l sel)
 
-pub open-unfit : (l : BinTable) (a : List ℕ) (sel : Selection) (heap : Bool) → fits l a ≡ false → openWith l a sel heap ≡ notOpened 10
-unfolding openWith
-open-unfit l a sel heap e = rw e
+pub open_unfit : (l : BinTable) (a : List ℕ) (sel : Selection) (heap : Bool) → fits l a ≡ false → open_with l a sel heap ≡ not_opened 10
+unfolding open_with
+open_unfit l a sel heap e = rw e
 
 -- so a cursor is opened just where a column is wanted
-pub opens-some : (l : BinTable) (a : List ℕ) (sel : Selection) (heap : Bool) (c : ℕ) → fits l a ≡ true → c < l.tfields → wanted sel c ≡ true
-    → openWith l a sel heap ≡ opened (cursorAt (choiceOf l sel) heap start)
-opens-some l a sel heap c e h w = rw (open-fit l a sel heap e, lt-ltb 0 (choiceOf l sel) (chosen-some (choiceOf l sel) c (rw (chosen-of l sel c, lt-ltb c l.tfields h, w))))
+pub opens_some : (l : BinTable) (a : List ℕ) (sel : Selection) (heap : Bool) (c : ℕ) → fits l a ≡ true → c < l.tfields → wanted sel c ≡ true
+    → open_with l a sel heap ≡ opened (cursor_at (choice_of l sel) heap start)
+opens_some l a sel heap c e h w = rw (open_fit l a sel heap e, lt-ltb 0 (choice_of l sel) (chosen_some (choice_of l sel) c (rw (chosen_of l sel c, lt-ltb c l.tfields h, w))))
 
-pub opens-none : (l : BinTable) (a : List ℕ) (sel : Selection) (heap : Bool) → fits l a ≡ true → ((c : ℕ) → c < l.tfields → wanted sel c ≡ false)
-    → openWith l a sel heap ≡ notOpened 11
-opens-none l a sel heap e none = rw (open-fit l a sel heap e, choice-none l sel none)
+pub opens_none : (l : BinTable) (a : List ℕ) (sel : Selection) (heap : Bool) → fits l a ≡ true → ((c : ℕ) → c < l.tfields → wanted sel c ≡ false)
+    → open_with l a sel heap ≡ not_opened 11
+opens_none l a sel heap e none = rw (open_fit l a sel heap e, choice_none l sel none)
 
 -- ---- a step
 
 -- what does not belong gets a 10 and is left as it is
-pub step-unfit : (l : BinTable) (a : List ℕ) (c : TableData) (x : Step) → belongs l a c ≡ false
-    → cursorStep l a c x ≡ record { reply = refused 10 0; cursor = c; list = lent x }
-unfolding cursorStep
-step-unfit l a c x e = rw e
+pub step_unfit : (l : BinTable) (a : List ℕ) (c : TableData) (x : Step) → belongs l a c ≡ false
+    → cursor_step l a c x ≡ record { reply = refused 10 0; cursor = c; list = lent x }
+unfolding cursor_step
+step_unfit l a c x e = rw e
 
 module _ (l : BinTable) (a : List ℕ) (c : TableData) (fit : belongs l a c ≡ true) where
   -- a cell read at the next entry, whichever it is
-  pub cell-at : (x : Next) → next (rowEntries l a c.choice c.heap) l.naxis2 (l.naxis2 - c.row) c.row c.passed ≡ x
-      → cursorStep l a c readCell ≡ withCursor c.choice c.heap (cellOutcome (rowEntries l a c.choice c.heap) l.naxis2 (stateOf c) x)
-  unfolding cursorStep walkStep
-  cell-at x e = rw (fit, e)
+  pub cell_at : (x : Next) → next (row_entries l a c.choice c.heap) l.naxis2 (l.naxis2 - c.row) c.row c.passed ≡ x
+      → cursor_step l a c read_cell ≡ with_cursor c.choice c.heap (cell_outcome (row_entries l a c.choice c.heap) l.naxis2 (state_of c) x)
+  unfolding cursor_step walk_step
+  cell_at x e = rw (fit, e)
 
-  pub seek-at : (r : ℕ) → cursorStep l a c (seek r) ≡ withCursor c.choice c.heap (seekOutcome l.naxis2 (stateOf c) r)
-  unfolding cursorStep walkStep
-  seek-at r = rw fit
+  pub seek_at : (r : ℕ) → cursor_step l a c (seek r) ≡ with_cursor c.choice c.heap (seek_outcome l.naxis2 (state_of c) r)
+  unfolding cursor_step walk_step
+  seek_at r = rw fit
 
-pub belongs-fits : (l : BinTable) (a : List ℕ) (c : TableData) → belongs l a c ≡ true → fits l a ≡ true
+pub belongs_fits : (l : BinTable) (a : List ℕ) (c : TableData) → belongs l a c ≡ true → fits l a ≡ true
 unfolding belongs
-belongs-fits l a c e =
-    (both (fits l a) (choiceOk l c.choice && placeOk (rowEntries l a c.choice c.heap) l.naxis2 c.row c.passed) e).0
+belongs_fits l a c e =
+    (both (fits l a) (choice_ok l c.choice && place_ok (row_entries l a c.choice c.heap) l.naxis2 c.row c.passed) e).0

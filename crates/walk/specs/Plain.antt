@@ -4,47 +4,47 @@ use Rattle.std.specs.Prelude.{ℕ, zero, suc, ◌+◌, ◌*◌, ◌/◌, ◌%◌
 use Rattle.tform.specs.declared.VariableArrayTy.{VariableArrayTy}
 use Rattle.layout.specs.declared.Column.{Column}
 use Rattle.layout.specs.declared.BinTable.{BinTable}
-use Rattle.layout.specs.Layout.{noColumn, dataSize}
+use Rattle.layout.specs.Layout.{no_column, data_size}
 use Rattle.cell.specs.declared.DataValue.{DataValue}
 use Rattle.cell.specs.declared.Cell.{Cell}
 use Rattle.cell.specs.declared.Field.{Field}
 use Rattle.cell.specs.declared.Field.TheVariants as F
 use Rattle.cell.specs.Item.{width, item}
-use Rattle.cell.specs.Field.{field, sizeOf}
+use Rattle.cell.specs.Field.{field, size_of}
 use Rattle.walk.specs.declared.Entry.{Entry}
 use Rattle.walk.specs.declared.Entry.TheVariants as E
 
 -- column c of a layout
-abbrev pub columnOf : BinTable → ℕ → Column
-columnOf l c = get_or l.columns c noColumn
+abbrev pub column_of : BinTable → ℕ → Column
+column_of l c = get_or l.columns c no_column
 
 -- where the field of column c lies in row r
-abbrev pub fieldAt : BinTable → ℕ → ℕ → ℕ
-fieldAt l r c = r * l.naxis1 + (columnOf l c).start
+abbrev pub field_at : BinTable → ℕ → ℕ → ℕ
+field_at l r c = r * l.naxis1 + (column_of l c).start
 
 -- what the field of column c in row r stands for, with the heap on or off
-unfoldable pub fieldOf : BinTable → List ℕ → Bool → ℕ → ℕ → Field
-fieldOf l a heap r c = field a (fieldAt l r c) (columnOf l c) heap l.theap (dataSize l)
+unfoldable pub field_of : BinTable → List ℕ → Bool → ℕ → ℕ → Field
+field_of l a heap r c = field a (field_at l r c) (column_of l c) heap l.theap (data_size l)
 
 -- the cell of row r, column c and index i
-abbrev pub cellOf : ℕ → ℕ → ℕ → DataValue → Cell
-cellOf r c i v = record { row = r; column = c; idx = i; value = v }
+abbrev pub cell_of : ℕ → ℕ → ℕ → DataValue → Cell
+cell_of r c i v = record { row = r; column = c; idx = i; value = v }
 
 -- item i of those that lie from byte `at` on
-abbrev pub itemAt : Column → List ℕ → VariableArrayTy → ℕ → ℕ → DataValue
-itemAt column a ty at i = item column ty a (at + i * width ty)
+abbrev pub item_at : Column → List ℕ → VariableArrayTy → ℕ → ℕ → DataValue
+item_at column a ty at i = item column ty a (at + i * width ty)
 
 -- n cells of row r and column c, with the indexes from i on and the values v
 unfoldable pub cells : ℕ → ℕ → (ℕ → DataValue) → ℕ → ℕ → List Entry
 cells r c v i zero = []
-cells r c v i (suc n) = E.Cell (cellOf r c i (v i)) ∷ cells r c v (suc i) n
+cells r c v i (suc n) = E.Cell (cell_of r c i (v i)) ∷ cells r c v (suc i) n
 
 -- the request's term "entry": a part of the plain list, counted as one. A field of row r and column c has a cell for each item, one
 -- cell for a descriptor that is not followed, and one entry, refusal 13, for an array that ends past the heap
-unfoldable pub entriesOf : Column → List ℕ → ℕ → ℕ → Field → List Entry
-entriesOf column a r c (F.Items ty at n) = cells r c (itemAt column a ty at) 0 n
-entriesOf column a r c (F.Descriptor v) = E.Cell (cellOf r c 0 v) ∷ []
-entriesOf column a r c F.OutsideHeap = E.OutsideHeap c ∷ []
+unfoldable pub entries_of : Column → List ℕ → ℕ → ℕ → Field → List Entry
+entries_of column a r c (F.Items ty at n) = cells r c (item_at column a ty at) 0 n
+entries_of column a r c (F.Descriptor v) = E.Cell (cell_of r c 0 v) ∷ []
+entries_of column a r c F.OutsideHeap = E.OutsideHeap c ∷ []
 
 -- the request's term "choice": some of the layout's columns, as a number. Column c is in it if bit c, counted from the lowest, is set
 unfoldable pub chosen : ℕ → ℕ → Bool
@@ -52,25 +52,25 @@ chosen choice c = eqb (choice / 2 ^ c % 2) 1
 
 module _ (l : BinTable) (a : List ℕ) (choice : ℕ) (heap : Bool) (r : ℕ) where
   -- the entries of column c in row r
-  unfoldable pub columnEntries : ℕ → List Entry
-  columnEntries c = cond (chosen choice c) (entriesOf (columnOf l c) a r c (fieldOf l a heap r c)) []
+  unfoldable pub column_entries : ℕ → List Entry
+  column_entries c = cond (chosen choice c) (entries_of (column_of l c) a r c (field_of l a heap r c)) []
 
   -- of n columns from column c on
-  unfoldable pub columnsEntries : ℕ → ℕ → List Entry
-  columnsEntries c zero = []
-  columnsEntries c (suc n) = columnEntries c ++ columnsEntries (suc c) n
+  unfoldable pub columns_entries : ℕ → ℕ → List Entry
+  columns_entries c zero = []
+  columns_entries c (suc n) = column_entries c ++ columns_entries (suc c) n
 
   -- the request's term "plain list", of row r: its chosen fields ascending, each field's items by index. A row that the table lacks
   -- has no entry
-  unfoldable pub rowEntries : List Entry
-  rowEntries = cond (ltb r l.naxis2) (columnsEntries 0 l.tfields) []
+  unfoldable pub row_entries : List Entry
+  row_entries = cond (ltb r l.naxis2) (columns_entries 0 l.tfields) []
 
   -- how many entries column c has in row r: not a part of the plain list, but what the search for an entry works out
-  abbrev pub columnSize : ℕ → ℕ
-  columnSize c = cond (chosen choice c) (sizeOf (fieldOf l a heap r c)) 0
+  abbrev pub column_size : ℕ → ℕ
+  column_size c = cond (chosen choice c) (size_of (field_of l a heap r c)) 0
 
 -- the entry at index i of a field of row r and column c, which that search hands out
-abbrev pub entryIn : Column → List ℕ → ℕ → ℕ → Field → ℕ → Entry
-entryIn column a r c (F.Items ty at n) i = E.Cell (cellOf r c i (itemAt column a ty at i))
-entryIn column a r c (F.Descriptor v) i = E.Cell (cellOf r c 0 v)
-entryIn column a r c F.OutsideHeap i = E.OutsideHeap c
+abbrev pub entry_in : Column → List ℕ → ℕ → ℕ → Field → ℕ → Entry
+entry_in column a r c (F.Items ty at n) i = E.Cell (cell_of r c i (item_at column a ty at i))
+entry_in column a r c (F.Descriptor v) i = E.Cell (cell_of r c 0 v)
+entry_in column a r c F.OutsideHeap i = E.OutsideHeap c

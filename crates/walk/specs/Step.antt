@@ -5,8 +5,8 @@ use Rattle.std.specs.Prelude.{ℕ, zero, suc, ◌+◌, ◌-◌, ◌*◌, ◌^◌
 use Rattle.refusal.specs.Refusal as H
 use Rattle.tform.specs.Width.{among}
 use Rattle.layout.specs.declared.BinTable.{BinTable}
-use Rattle.layout.specs.Layout.{dataSize, layoutOk}
-use Rattle.refusal.specs.Refusal.{numberOf, placeOf, outcomeOf}
+use Rattle.layout.specs.Layout.{data_size, layout_ok}
+use Rattle.refusal.specs.Refusal.{number_of, place_of, outcome_of}
 use Rattle.cell.specs.declared.Cell.{Cell}
 use Rattle.walk.specs.declared.TableData.{TableData}
 use Rattle.walk.specs.declared.Entry.{Entry}
@@ -14,58 +14,58 @@ use Rattle.walk.specs.declared.Answer.{Answer}
 use Rattle.walk.specs.declared.Answer.TheVariants as A
 use Rattle.walk.specs.declared.Opened.{Opened}
 use Rattle.walk.specs.declared.Stepped.{Stepped}
-use Rattle.walk.specs.Plain.{rowEntries}
-use Rattle.walk.specs.Walk.{Step, lent, State, start, Outcome, Reply, gotCell, gotRow, sought, atEnd, refused, placeOk, entriesLeft, walkStep, walk}
+use Rattle.walk.specs.Plain.{row_entries}
+use Rattle.walk.specs.Walk.{Step, lent, State, start, Outcome, Reply, got_cell, got_row, sought, at_end, refused, place_ok, entries_left, walk_step, walk}
 
 -- ---- what belongs together
 
 -- the layout keeps every limit and sum, and the data area is long enough
 unfoldable pub fits : BinTable → List ℕ → Bool
-fits l a = layoutOk l && leb (dataSize l) (length a)
+fits l a = layout_ok l && leb (data_size l) (length a)
 
 -- the request's term "belongs", of a choice: it is one or more of the layout's columns
-unfoldable pub choiceOk : BinTable → ℕ → Bool
-choiceOk l choice = ltb 0 choice && ltb choice (2 ^ l.tfields)
+unfoldable pub choice_ok : BinTable → ℕ → Bool
+choice_ok l choice = ltb 0 choice && ltb choice (2 ^ l.tfields)
 
 unfoldable pub belongs : BinTable → List ℕ → TableData → Bool
 belongs l a c =
-    fits l a && (choiceOk l c.choice && placeOk (rowEntries l a c.choice c.heap) l.naxis2 c.row c.passed)
+    fits l a && (choice_ok l c.choice && place_ok (row_entries l a c.choice c.heap) l.naxis2 c.row c.passed)
 
 -- ---- the cursor
 
-abbrev pub stateOf : TableData → State
-stateOf c = record { row = c.row; passed = c.passed; count = c.count }
+abbrev pub state_of : TableData → State
+state_of c = record { row = c.row; passed = c.passed; count = c.count }
 
-abbrev pub cursorAt : ℕ → Bool → State → TableData
-cursorAt choice heap s = record { choice = choice; heap = heap; row = s.row; passed = s.passed; count = s.count }
+abbrev pub cursor_at : ℕ → Bool → State → TableData
+cursor_at choice heap s = record { choice = choice; heap = heap; row = s.row; passed = s.passed; count = s.count }
 
 -- the entries that are left from a cursor on, its own row's and those of all later rows
-abbrev pub cursorLeft : BinTable → List ℕ → TableData → List Entry
-cursorLeft l a c = entriesLeft (rowEntries l a c.choice c.heap) l.naxis2 (l.naxis2 - c.row) c.row c.passed
+abbrev pub cursor_left : BinTable → List ℕ → TableData → List Entry
+cursor_left l a c = entries_left (row_entries l a c.choice c.heap) l.naxis2 (l.naxis2 - c.row) c.row c.passed
 
 -- the cursor beside a refusal of opening
-abbrev pub noCursor : TableData
-noCursor = cursorAt 0 false start
+abbrev pub no_cursor : TableData
+no_cursor = cursor_at 0 false start
 
 -- ---- opening
 
 -- all columns, or those of a lent list of indexes
 pub data Selection : Type 0 where
-  allColumns : Selection
+  all_columns : Selection
   listed : List ℕ → Selection
 
 abbrev pub wanted : Selection → ℕ → Bool
-wanted allColumns c = true
+wanted all_columns c = true
 wanted (listed is) c = among c is
 
 -- the choice of those of n columns from column c on that are wanted, column c being bit 0
-unfoldable pub choiceFrom : Selection → ℕ → ℕ → ℕ
-choiceFrom sel c zero = 0
-choiceFrom sel c (suc n) = cond (wanted sel c) 1 0 + 2 * choiceFrom sel (suc c) n
+unfoldable pub choice_from : Selection → ℕ → ℕ → ℕ
+choice_from sel c zero = 0
+choice_from sel c (suc n) = cond (wanted sel c) 1 0 + 2 * choice_from sel (suc c) n
 
 -- the request's term "choice", made from a selection: an index that the layout lacks is dropped, and a repeated one counts once
-abbrev pub choiceOf : BinTable → Selection → ℕ
-choiceOf l sel = choiceFrom sel 0 l.tfields
+abbrev pub choice_of : BinTable → Selection → ℕ
+choice_of l sel = choice_from sel 0 l.tfields
 
 -- what opening comes to: an outcome, and the cursor beside it
 pub record Opening : Type 0 where
@@ -75,16 +75,16 @@ pub record Opening : Type 0 where
 abbrev pub opened : TableData → Opening
 opened c = record { outcome = H.accepted; cursor = c }
 
-abbrev pub notOpened : ℕ → Opening
-notOpened n = record { outcome = H.refused n 0; cursor = noCursor }
+abbrev pub not_opened : ℕ → Opening
+not_opened n = record { outcome = H.refused n 0; cursor = no_cursor }
 
-unfoldable pub openWith : BinTable → List ℕ → Selection → Bool → Opening
-openWith l a sel heap =
-    cond (fits l a) (cond (choiceOk l (choiceOf l sel)) (opened (cursorAt (choiceOf l sel) heap start)) (notOpened 11)) (notOpened 10)
+unfoldable pub open_with : BinTable → List ℕ → Selection → Bool → Opening
+open_with l a sel heap =
+    cond (fits l a) (cond (choice_ok l (choice_of l sel)) (opened (cursor_at (choice_of l sel) heap start)) (not_opened 11)) (not_opened 10)
 
 -- what the code's opening returned
-abbrev pub openingOf : Opened → Opening
-openingOf o = record { outcome = outcomeOf o.check; cursor = o.cursor }
+abbrev pub opening_of : Opened → Opening
+opening_of o = record { outcome = outcome_of o.check; cursor = o.cursor }
 
 -- ---- a step
 
@@ -95,37 +95,37 @@ pub record Result : Type 0 where
   pub list : List Cell
 
 -- an outcome of the walk as the result of a cursor with this choice and heap setting
-abbrev pub withCursor : ℕ → Bool → Outcome → Result
-withCursor choice heap o = record { reply = o.reply; cursor = cursorAt choice heap o.state; list = o.list }
+abbrev pub with_cursor : ℕ → Bool → Outcome → Result
+with_cursor choice heap o = record { reply = o.reply; cursor = cursor_at choice heap o.state; list = o.list }
 
-unfoldable pub cursorStep : BinTable → List ℕ → TableData → Step → Result
-cursorStep l a c x =
+unfoldable pub cursor_step : BinTable → List ℕ → TableData → Step → Result
+cursor_step l a c x =
     cond (belongs l a c)
-    (withCursor c.choice c.heap (walkStep (rowEntries l a c.choice c.heap) l.naxis2 (stateOf c) x))
+    (with_cursor c.choice c.heap (walk_step (row_entries l a c.choice c.heap) l.naxis2 (state_of c) x))
     (record { reply = refused 10 0; cursor = c; list = lent x })
 
 -- a list of steps: each gets the cursor that the last one returned or left
 unfoldable pub run : BinTable → List ℕ → TableData → List Step → List Result
 run l a c [] = []
-run l a c (x ∷ xs) = let o = cursorStep l a c x in o ∷ run l a o.cursor xs
+run l a c (x ∷ xs) = let o = cursor_step l a c x in o ∷ run l a o.cursor xs
 
 -- the request's term "plain walk", from the start: it is fed the layout, data area, choice and heap setting, and each step's
 -- arguments, and nothing from a cursor
-abbrev pub plainWalk : BinTable → List ℕ → ℕ → Bool → List Step → List Outcome
-plainWalk l a choice heap xs = walk (rowEntries l a choice heap) l.naxis2 start xs
+abbrev pub plain_walk : BinTable → List ℕ → ℕ → Bool → List Step → List Outcome
+plain_walk l a choice heap xs = walk (row_entries l a choice heap) l.naxis2 start xs
 
 -- ---- what the code's step returned
 
-abbrev pub replyOf : Answer → Reply
-replyOf (A.Cell c) = gotCell c
-replyOf (A.Row n) = gotRow n
-replyOf A.Sought = sought
-replyOf A.End = atEnd
-replyOf (A.Refused r) = refused (numberOf r) (placeOf r)
+abbrev pub reply_of : Answer → Reply
+reply_of (A.Cell c) = got_cell c
+reply_of (A.Row n) = got_row n
+reply_of A.Sought = sought
+reply_of A.End = at_end
+reply_of (A.Refused r) = refused (number_of r) (place_of r)
 
 -- with what the list lent holds afterwards, nothing where none is lent
-abbrev pub resultOf : Stepped → List Cell → Result
-resultOf s list = record { reply = replyOf s.answer; cursor = s.cursor; list = list }
+abbrev pub result_of : Stepped → List Cell → Result
+result_of s list = record { reply = reply_of s.answer; cursor = s.cursor; list = list }
 
 -- what a call over a lent cursor left and returned
 abbrev pub stepped : TableData → Answer → Stepped

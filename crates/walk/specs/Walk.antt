@@ -8,16 +8,16 @@ use Rattle.walk.specs.declared.Entry.TheVariants as E
 
 -- a step's arguments: a row read has its list as lent, a seek its row
 pub data Step : Type 0 where
-  readCell : Step
-  readRow : List Cell → Step
+  read_cell : Step
+  read_row : List Cell → Step
   seek : ℕ → Step
 
 -- what a step answers: a cell, the count of a row read, that the row was sought, the end, or the number and place of a refusal
 pub data Reply : Type 0 where
-  gotCell : Cell → Reply
-  gotRow : ℕ → Reply
+  got_cell : Cell → Reply
+  got_row : ℕ → Reply
   sought : Reply
-  atEnd : Reply
+  at_end : Reply
   refused : ℕ → ℕ → Reply
 
 -- what the walk keeps: the request's term "place", which is a row and the entries passed in it, and the count
@@ -38,8 +38,8 @@ pub record Outcome : Type 0 where
 
 -- the list lent with a step
 abbrev pub lent : Step → List Cell
-lent readCell = []
-lent (readRow list) = list
+lent read_cell = []
+lent (read_row list) = list
 lent (seek r) = []
 
 -- where the count stops
@@ -48,10 +48,10 @@ stop = 4294967295
 
 -- the cells that a step hands out with an answer. The step does not matter while there is one count for all
 abbrev pub handed : Step → Reply → ℕ
-handed x (gotCell c) = 1
-handed x (gotRow k) = k
+handed x (got_cell c) = 1
+handed x (got_row k) = k
 handed x sought = 0
-handed x atEnd = 0
+handed x at_end = 0
 handed x (refused n p) = 0
 
 -- what is kept, at another place
@@ -68,20 +68,20 @@ refusal s x n p = record { reply = refused n p; list = lent x; state = s }
 
 -- the next entry and its place, or none left
 pub data Next : Type 0 where
-  entryAt : ℕ → ℕ → Entry → Next
-  noEntry : Next
+  entry_at : ℕ → ℕ → Entry → Next
+  no_entry : Next
 
 -- the cells of some entries, or the column of the first refusal 13 among them
 pub data Gathered : Type 0 where
-  allCells : List Cell → Gathered
+  all_cells : List Cell → Gathered
   outside : ℕ → Gathered
 
 abbrev pub before : Cell → Gathered → Gathered
-before c (allCells cs) = allCells (c ∷ cs)
+before c (all_cells cs) = all_cells (c ∷ cs)
 before c (outside k) = outside k
 
 unfoldable pub gather : List Entry → Gathered
-gather [] = allCells []
+gather [] = all_cells []
 gather (E.Cell c ∷ es) = before c (gather es)
 gather (E.OutsideHeap k ∷ es) = outside k
 
@@ -90,69 +90,69 @@ abbrev pub pass : State → ℕ → ℕ → ℕ → State
 pass s size r p = cond (ltb (suc p) size) (placed s r (suc p)) (placed s (suc r) 0)
 
 -- a cell read at that entry: a cell is handed out and passed; at a 13 nothing moves
-abbrev pub entryOutcome : State → ℕ → ℕ → ℕ → Entry → Outcome
-entryOutcome s size r p (E.Cell c) = record { reply = gotCell c; list = []; state = pass (grown s readCell 1) size r p }
-entryOutcome s size r p (E.OutsideHeap k) = refusal s readCell 13 k
+abbrev pub entry_outcome : State → ℕ → ℕ → ℕ → Entry → Outcome
+entry_outcome s size r p (E.Cell c) = record { reply = got_cell c; list = []; state = pass (grown s read_cell 1) size r p }
+entry_outcome s size r p (E.OutsideHeap k) = refusal s read_cell 13 k
 
 -- a seek to the start of row r of n rows: at a 12 nothing moves
-abbrev pub seekOutcome : ℕ → State → ℕ → Outcome
-seekOutcome n s r = cond (ltb r n) (record { reply = sought; list = []; state = placed s r 0 }) (refusal s (seek r) 12 r)
+abbrev pub seek_outcome : ℕ → State → ℕ → Outcome
+seek_outcome n s r = cond (ltb r n) (record { reply = sought; list = []; state = placed s r 0 }) (refusal s (seek r) 12 r)
 
 -- `rows r` is the plain list of row r, and n the number of rows
 module _ (rows : ℕ → List Entry) (n : ℕ) where
   -- a place belongs if its row is below n with 0 entries passed or fewer than that row has, or is n with 0
-  unfoldable pub placeOk : ℕ → ℕ → Bool
-  placeOk r p = cond (ltb r n) (eqb p 0 || ltb p (length (rows r))) (eqb r n && eqb p 0)
+  unfoldable pub place_ok : ℕ → ℕ → Bool
+  place_ok r p = cond (ltb r n) (eqb p 0 || ltb p (length (rows r))) (eqb r n && eqb p 0)
 
   -- the next entry from the place r, p on, passing rows that have none left; k is the number of rows from r on. The default of the
   -- lookup is never taken, since p is an index of the row
   unfoldable pub next : ℕ → ℕ → ℕ → Next
-  next zero r p = noEntry
+  next zero r p = no_entry
   next (suc k) r p =
       let later = next k (suc r) 0 in
-      cond (ltb p (length (rows r))) (entryAt r p (get_or (rows r) p (E.OutsideHeap 0))) later
+      cond (ltb p (length (rows r))) (entry_at r p (get_or (rows r) p (E.OutsideHeap 0))) later
 
   -- a cell read: with no entry left the place is row n
-  abbrev pub cellOutcome : State → Next → Outcome
-  cellOutcome s noEntry = record { reply = atEnd; list = []; state = placed s n 0 }
-  cellOutcome s (entryAt r p e) = entryOutcome s (length (rows r)) r p e
+  abbrev pub cell_outcome : State → Next → Outcome
+  cell_outcome s no_entry = record { reply = at_end; list = []; state = placed s n 0 }
+  cell_outcome s (entry_at r p e) = entry_outcome s (length (rows r)) r p e
 
   -- a row read: the rest of the row's cells to the front of the list, then the next row's start; the first 13 comes before 14
-  abbrev pub rowOutcome : State → List Cell → Gathered → Outcome
-  rowOutcome s list (outside k) = refusal s (readRow list) 13 k
-  rowOutcome s list (allCells cs) =
+  abbrev pub row_outcome : State → List Cell → Gathered → Outcome
+  row_outcome s list (outside k) = refusal s (read_row list) 13 k
+  row_outcome s list (all_cells cs) =
       cond (leb (length cs) (length list))
       (record {
-        reply = gotRow (length cs);
+        reply = got_row (length cs);
         list = cs ++ drop (length cs) list;
-        state = placed (grown s (readRow list) (length cs)) (suc s.row) 0;
+        state = placed (grown s (read_row list) (length cs)) (suc s.row) 0;
       })
-      (refusal s (readRow list) 14 (length cs))
+      (refusal s (read_row list) 14 (length cs))
 
   -- the next entry, and what is left of the row
-  abbrev pub nextEntry : State → Next
-  nextEntry s = next (n - s.row) s.row s.passed
+  abbrev pub next_entry : State → Next
+  next_entry s = next (n - s.row) s.row s.passed
 
   abbrev pub rest : State → Gathered
   rest s = gather (drop s.passed (rows s.row))
 
-  unfoldable pub walkStep : State → Step → Outcome
-  walkStep s readCell = cellOutcome s (nextEntry s)
-  walkStep s (readRow list) =
-      cond (ltb s.row n) (rowOutcome s list (rest s)) (record { reply = atEnd; list = list; state = s })
-  walkStep s (seek r) = seekOutcome n s r
+  unfoldable pub walk_step : State → Step → Outcome
+  walk_step s read_cell = cell_outcome s (next_entry s)
+  walk_step s (read_row list) =
+      cond (ltb s.row n) (row_outcome s list (rest s)) (record { reply = at_end; list = list; state = s })
+  walk_step s (seek r) = seek_outcome n s r
 
   -- the entries of k rows from row r on, in their order
-  unfoldable pub entriesFrom : ℕ → ℕ → List Entry
-  entriesFrom r zero = []
-  entriesFrom r (suc k) = rows r ++ entriesFrom (suc r) k
+  unfoldable pub entries_from : ℕ → ℕ → List Entry
+  entries_from r zero = []
+  entries_from r (suc k) = rows r ++ entries_from (suc r) k
 
   -- those that are left of k rows from the place r, p on
-  abbrev pub entriesLeft : ℕ → ℕ → ℕ → List Entry
-  entriesLeft zero r p = []
-  entriesLeft (suc k) r p = drop p (rows r) ++ entriesFrom (suc r) k
+  abbrev pub entries_left : ℕ → ℕ → ℕ → List Entry
+  entries_left zero r p = []
+  entries_left (suc k) r p = drop p (rows r) ++ entries_from (suc r) k
 
-  -- the request's term "plain walk": the outcome of each step, from what is kept on. `plainWalk` in Step has what it is fed
+  -- the request's term "plain walk": the outcome of each step, from what is kept on. `plain_walk` in Step has what it is fed
   unfoldable pub walk : State → List Step → List Outcome
   walk s [] = []
-  walk s (x ∷ xs) = let o = walkStep s x in o ∷ walk o.state xs
+  walk s (x ∷ xs) = let o = walk_step s x in o ∷ walk o.state xs

@@ -4,16 +4,16 @@ use Rattle.std.proofs.Common.{◌≡◌, ◌≤◌, ℕ, List, length, sym, ◌�
 use borrow.Author.Tests.{eqb-true, leb-true}
 use Rattle.ascii.proofs.Cases.{both}
 use Rattle.layout.specs.declared.BinTable.{BinTable}
-use Rattle.layout.specs.Layout.{naxis2Limit, columnsOf}
+use Rattle.layout.specs.Layout.{naxis2_limit, columns_of}
 use Rattle.walk.specs.declared.TableData.{TableData}
-use Rattle.walk.specs.Plain.{fieldOf, columnSize}
-use Rattle.walk.proofs.Inside.{fits-layout, column-in-row, items-bound}
+use Rattle.walk.specs.Plain.{field_of, column_size}
+use Rattle.walk.proofs.Inside.{fits_layout, column_in_row, items_bound}
 use Rattle.table.specs.declared.scan.Scan.{Scan}
-use Rattle.table.proofs.Scanned.{Scanned, sized-at, scanned-next, ready-says, ready-columns, ready-row, ready-data, ready-start, ready-few, found_in, found-fits, found-step}
+use Rattle.table.proofs.Scanned.{Scanned, sized_at, scanned_next, ready_says, ready_columns, ready_row, ready_data, ready_start, ready_few, found_in, found_fits, found_step}
 use Rattle.table.proofs.next.Goals as goal
 
 -- a layout has 64 slots for its columns
-columns : (l : BinTable) → length l.columns ≡ 64 → l.tfields ≤ 64 → length (columnsOf l) ≡ l.tfields
+columns : (l : BinTable) → length l.columns ≡ 64 → l.tfields ≤ 64 → length (columns_of l) ≡ l.tfields
 columns l e h = length-take l.tfields l.columns ∙ omega arith
 
 -- the pass over the columns so far, where none is left, is the pass over all
@@ -26,143 +26,143 @@ all l a u c s w h k =
 pub overflow_mul-start : goal.overflow_mul-start
 overflow_mul-start c =
     let l = c.args.layout in let a = c.args.area.now in let u = c.args.cursor in
-    let y = ready-says l a u.choice u.row (sym c.ready.ensures ∙ c.if-ready.true) in
-    omega (arith, ready-start l a u.choice u.row y, ready-data l a u.choice u.row y)
+    let y = ready_says l a u.choice u.row (sym c.ready.ensures ∙ c.if-ready.true) in
+    omega (arith, ready_start l a u.choice u.row y, ready_data l a u.choice u.row y)
 
 pub overflow_mul-end : goal.overflow_mul-end
 overflow_mul-end c =
     let l = c.args.layout in let a = c.args.area.now in let u = c.args.cursor in
-    let y = ready-says l a u.choice u.row (sym c.ready.ensures ∙ c.if-ready.true) in
-    omega (arith, ready-data l a u.choice u.row y)
+    let y = ready_says l a u.choice u.row (sym c.ready.ensures ∙ c.if-ready.true) in
+    omega (arith, ready_data l a u.choice u.row y)
 
 pub overflow_add-end : goal.overflow_add-end
 overflow_add-end c =
     let l = c.args.layout in let a = c.args.area.now in let u = c.args.cursor in
-    let y = ready-says l a u.choice u.row (sym c.ready.ensures ∙ c.if-ready.true) in
-    omega (arith, ready-data l a u.choice u.row y)
+    let y = ready_says l a u.choice u.row (sym c.ready.ensures ∙ c.if-ready.true) in
+    omega (arith, ready_data l a u.choice u.row y)
 
 pub offset_bounds-layout-c : goal.offset_bounds-layout-c
 offset_bounds-layout-c c =
     let l = c.args.layout in let a = c.args.area.now in let u = c.args.cursor in
-    let y = ready-says l a u.choice u.row (sym c.ready.ensures ∙ c.if-ready.true) in
-    omega (arith, ready-columns l a u.choice u.row y)
+    let y = ready_says l a u.choice u.row (sym c.ready.ensures ∙ c.if-ready.true) in
+    omega (arith, ready_columns l a u.choice u.row y)
 
 pub bounds-layout-c : goal.bounds-layout-c
 bounds-layout-c c =
     let l = c.args.layout in let a = c.args.area.now in let u = c.args.cursor in
-    let y = ready-says l a u.choice u.row (sym c.ready.ensures ∙ c.if-ready.true) in
-    omega (arith, ready-columns l a u.choice u.row y)
+    let y = ready_says l a u.choice u.row (sym c.ready.ensures ∙ c.if-ready.true) in
+    omega (arith, ready_columns l a u.choice u.row y)
 
 pub chosen-is_chosen-requires : goal.chosen-is_chosen-requires
 chosen-is_chosen-requires c =
     let l = c.args.layout in let a = c.args.area.now in let u = c.args.cursor in
-    let y = ready-says l a u.choice u.row (sym c.ready.ensures ∙ c.if-ready.true) in
-    omega (arith, ready-columns l a u.choice u.row y)
+    let y = ready_says l a u.choice u.row (sym c.ready.ensures ∙ c.if-ready.true) in
+    omega (arith, ready_columns l a u.choice u.row y)
 
 pub overflow_add-start : goal.overflow_add-start
 overflow_add-start c =
     let l = c.args.layout in let a = c.args.area.now in let u = c.args.cursor in
-    let y = ready-says l a u.choice u.row (sym c.ready.ensures ∙ c.if-ready.true) in
+    let y = ready_says l a u.choice u.row (sym c.ready.ensures ∙ c.if-ready.true) in
     omega (
       arith,
       c.loop-c.invariant.1.summed.bytes,
-      ready-columns l a u.choice u.row y,
-      ready-start l a u.choice u.row y,
-      ready-data l a u.choice u.row y,
+      ready_columns l a u.choice u.row y,
+      ready_start l a u.choice u.row y,
+      ready_data l a u.choice u.row y,
     )
 
 pub after-scan-requires : goal.after-scan-requires
 after-scan-requires c =
     let l = c.args.layout in let a = c.args.area.now in let u = c.args.cursor in
-    let y = ready-says l a u.choice u.row (sym c.ready.ensures ∙ c.if-ready.true) in
+    let y = ready_says l a u.choice u.row (sym c.ready.ensures ∙ c.if-ready.true) in
     let q = both _ _ (sym c.in_order.ensures ∙ c.if-not-in_order.false) in
-    let s : c.column_size-size.result ≡ columnSize l a u.choice u.heap u.row c.loop-c.c =
+    let s : c.column_size-size.result ≡ column_size l a u.choice u.heap u.row c.loop-c.c =
     rw (c.column_size-size.ensures, c.chosen-is_chosen.ensures)
-    (sized-at l a u.choice u.heap u.row c.loop-c.c c.loop-c.scan.at (eqb-true _ _ q.1)) in
-    let few : c.column_size-size.result ≤ 17594467745792 = rw s (ready-few l a u.choice u.row y u.heap c.loop-c.c q.0) in (
+    (sized_at l a u.choice u.heap u.row c.loop-c.c c.loop-c.scan.at (eqb-true _ _ q.1)) in
+    let few : c.column_size-size.result ≤ 17594467745792 = rw s (ready_few l a u.choice u.row y u.heap c.loop-c.c q.0) in (
       q.0,
       (
-        omega (arith, c.loop-c.invariant.1.summed.bytes, ready-columns l a u.choice u.row y),
-        omega (arith, few, c.loop-c.invariant.1.summed.some, ready-columns l a u.choice u.row y),
+        omega (arith, c.loop-c.invariant.1.summed.bytes, ready_columns l a u.choice u.row y),
+        omega (arith, few, c.loop-c.invariant.1.summed.some, ready_columns l a u.choice u.row y),
       ),
     )
 
 pub loop-c-preserved : goal.loop-c-preserved
 loop-c-preserved c =
     let l = c.args.layout in let a = c.args.area.now in let u = c.args.cursor in
-    let y = ready-says l a u.choice u.row (sym c.ready.ensures ∙ c.if-ready.true) in
-    let n = columns l (omega arith) (ready-columns l a u.choice u.row y) in
+    let y = ready_says l a u.choice u.row (sym c.ready.ensures ∙ c.if-ready.true) in
+    let n = columns l (omega arith) (ready_columns l a u.choice u.row y) in
     let q = both _ _ (sym c.in_order.ensures ∙ c.if-not-in_order.false) in
     let o = eqb-true _ _ q.1 in
-    let s : c.column_size-size.result ≡ columnSize l a u.choice u.heap u.row c.loop-c.c =
+    let s : c.column_size-size.result ≡ column_size l a u.choice u.heap u.row c.loop-c.c =
     rw (c.column_size-size.ensures, c.chosen-is_chosen.ensures)
-    (sized-at l a u.choice u.heap u.row c.loop-c.c c.loop-c.scan.at o) in
-    let few : c.column_size-size.result ≤ 17594467745792 = rw s (ready-few l a u.choice u.row y u.heap c.loop-c.c q.0) in (
+    (sized_at l a u.choice u.heap u.row c.loop-c.c c.loop-c.scan.at o) in
+    let few : c.column_size-size.result ≤ 17594467745792 = rw s (ready_few l a u.choice u.row y u.heap c.loop-c.c q.0) in (
       omega arith,
       rw (add-one c.loop-c.c, c.after-scan.ensures)
-          (scanned-next l a u.choice u.heap u.row u.passed n c.loop-c.c _ c.loop-c.scan c.loop-c-test.true c.loop-c.invariant.1 few q.0 o s),
+          (scanned_next l a u.choice u.heap u.row u.passed n c.loop-c.c _ c.loop-c.scan c.loop-c-test.true c.loop-c.invariant.1 few q.0 o s),
     )
 
 pub offset_bounds-layout-k : goal.offset_bounds-layout-k
 offset_bounds-layout-k c =
     let l = c.args.layout in let a = c.args.area.now in let u = c.args.cursor in
-    let y = ready-says l a u.choice u.row (sym c.ready.ensures ∙ c.if-ready.true) in
-    let n = columns l (omega arith) (ready-columns l a u.choice u.row y) in
+    let y = ready_says l a u.choice u.row (sym c.ready.ensures ∙ c.if-ready.true) in
+    let n = columns l (omega arith) (ready_columns l a u.choice u.row y) in
     let w = all l a u c.loop-c.c c.loop-c.scan c.loop-c.invariant.1 c.loop-c.invariant.0 c.loop-c-test.false in
     let f = found_in l a u c.loop-c.scan n y w c.if-scan-layout.true c.if-scan.true in
-    omega (arith, f.1.0, ready-columns l a u.choice u.row y)
+    omega (arith, f.1.0, ready_columns l a u.choice u.row y)
 
 pub bounds-layout-k : goal.bounds-layout-k
 bounds-layout-k c =
     let l = c.args.layout in let a = c.args.area.now in let u = c.args.cursor in
-    let y = ready-says l a u.choice u.row (sym c.ready.ensures ∙ c.if-ready.true) in
-    let n = columns l (omega arith) (ready-columns l a u.choice u.row y) in
+    let y = ready_says l a u.choice u.row (sym c.ready.ensures ∙ c.if-ready.true) in
+    let n = columns l (omega arith) (ready_columns l a u.choice u.row y) in
     let w = all l a u c.loop-c.c c.loop-c.scan c.loop-c.invariant.1 c.loop-c.invariant.0 c.loop-c-test.false in
     let f = found_in l a u c.loop-c.scan n y w c.if-scan-layout.true c.if-scan.true in
-    omega (arith, f.1.0, ready-columns l a u.choice u.row y)
+    omega (arith, f.1.0, ready_columns l a u.choice u.row y)
 
 pub overflow_add-start-then-scan-layout : goal.overflow_add-start-then-scan-layout
 overflow_add-start-then-scan-layout c =
     let l = c.args.layout in let a = c.args.area.now in let u = c.args.cursor in
-    let y = ready-says l a u.choice u.row (sym c.ready.ensures ∙ c.if-ready.true) in
-    let n = columns l (omega arith) (ready-columns l a u.choice u.row y) in
+    let y = ready_says l a u.choice u.row (sym c.ready.ensures ∙ c.if-ready.true) in
+    let n = columns l (omega arith) (ready_columns l a u.choice u.row y) in
     let w = all l a u c.loop-c.c c.loop-c.scan c.loop-c.invariant.1 c.loop-c.invariant.0 c.loop-c-test.false in
     let f = found_in l a u c.loop-c.scan n y w c.if-scan-layout.true c.if-scan.true in
-    let ok = fits-layout l a (found-fits l a u c.loop-c.scan n y w c.if-scan-layout.true c.if-scan.true) in
+    let ok = fits_layout l a (found_fits l a u c.loop-c.scan n y w c.if-scan-layout.true c.if-scan.true) in
     omega (
       arith,
-      column-in-row l ok c.loop-c.scan.column f.1.0,
-      ready-start l a u.choice u.row y,
-      ready-data l a u.choice u.row y,
+      column_in_row l ok c.loop-c.scan.column f.1.0,
+      ready_start l a u.choice u.row y,
+      ready_data l a u.choice u.row y,
     )
 
 pub entry_of-entry-requires : goal.entry_of-entry-requires
-unfolding fieldOf
+unfolding field_of
 entry_of-entry-requires c =
     let l = c.args.layout in let a = c.args.area.now in let u = c.args.cursor in
-    let y = ready-says l a u.choice u.row (sym c.ready.ensures ∙ c.if-ready.true) in
-    let n = columns l (omega arith) (ready-columns l a u.choice u.row y) in
+    let y = ready_says l a u.choice u.row (sym c.ready.ensures ∙ c.if-ready.true) in
+    let n = columns l (omega arith) (ready_columns l a u.choice u.row y) in
     let w = all l a u c.loop-c.c c.loop-c.scan c.loop-c.invariant.1 c.loop-c.invariant.0 c.loop-c-test.false in
     let f = found_in l a u c.loop-c.scan n y w c.if-scan-layout.true c.if-scan.true in
-    let ok = fits-layout l a (found-fits l a u c.loop-c.scan n y w c.if-scan-layout.true c.if-scan.true) in
-    (f.1.1.0, items-bound l ok a u.heap u.row c.loop-c.scan.column (ready-row l a u.choice u.row y) f.1.0)
+    let ok = fits_layout l a (found_fits l a u c.loop-c.scan n y w c.if-scan-layout.true c.if-scan.true) in
+    (f.1.1.0, items_bound l ok a u.heap u.row c.loop-c.scan.column (ready_row l a u.choice u.row y) f.1.0)
 
 pub read_entry-requires : goal.read_entry-requires
 read_entry-requires c =
     let l = c.args.layout in let a = c.args.area.now in let u = c.args.cursor in
-    let y = ready-says l a u.choice u.row (sym c.ready.ensures ∙ c.if-ready.true) in
-    let n = columns l (omega arith) (ready-columns l a u.choice u.row y) in
+    let y = ready_says l a u.choice u.row (sym c.ready.ensures ∙ c.if-ready.true) in
+    let n = columns l (omega arith) (ready_columns l a u.choice u.row y) in
     let w = all l a u c.loop-c.c c.loop-c.scan c.loop-c.invariant.1 c.loop-c.invariant.0 c.loop-c-test.false in
     let f = found_in l a u c.loop-c.scan n y w c.if-scan-layout.true c.if-scan.true in
-    (omega (arith, ready-row l a u.choice u.row y, leb-true l.naxis2 naxis2Limit y.rows), f.0)
+    (omega (arith, ready_row l a u.choice u.row y, leb-true l.naxis2 naxis2_limit y.rows), f.0)
 
 pub returns-then-scan-layout : goal.returns-then-scan-layout
-unfolding fieldOf
+unfolding field_of
 returns-then-scan-layout c =
     let l = c.args.layout in let a = c.args.area.now in let u = c.args.cursor in
-    let y = ready-says l a u.choice u.row (sym c.ready.ensures ∙ c.if-ready.true) in
-    let n = columns l (omega arith) (ready-columns l a u.choice u.row y) in
+    let y = ready_says l a u.choice u.row (sym c.ready.ensures ∙ c.if-ready.true) in
+    let n = columns l (omega arith) (ready_columns l a u.choice u.row y) in
     let w = all l a u c.loop-c.c c.loop-c.scan c.loop-c.invariant.1 c.loop-c.invariant.0 c.loop-c-test.false in
     c.read_entry.ensures
     ∙ rw c.entry_of-entry.ensures
-    (sym (found-step l a u c.loop-c.scan n y w c.if-scan-layout.true c.if-scan.true))
+    (sym (found_step l a u c.loop-c.scan n y w c.if-scan-layout.true c.if-scan.true))

@@ -2,7 +2,7 @@
 use Rattle.std.proofs.Common.{◌≡◌, ℕ, ◌+◌, List, length, get_or, sym, ap, ◌∙◌, arith, add-one}
 use lib.ListN.{set, length-set}
 use lib.Seq.{paste, paste-suc}
-use Rattle.ascii.proofs.Lengths.{paste-whole}
+use Rattle.ascii.proofs.Lengths.{paste_whole}
 use Rattle.ascii.proofs.buffer.copy.Goals as goal
 
 pub loop-i-preserved : goal.loop-i-preserved
@@ -19,4 +19,4 @@ loop-i-preserved c =
 pub returns-clause-buffer : goal.returns-clause-buffer
 returns-clause-buffer c =
     let n : c.loop-i.i ≡ length c.args.text.now = omega arith in
-    c.loop-i.invariant.2 ∙ paste-whole c.args.out.now c.args.at c.args.text.now c.loop-i.i n
+    c.loop-i.invariant.2 ∙ paste_whole c.args.out.now c.args.at c.args.text.now c.loop-i.i n

@@ -2,7 +2,7 @@
 use Rattle.std.proofs.Common.{ℕ, ◌+◌, List, replicate, sym, ap, ◌∙◌, arith, add-one}
 use lib.ListN.{set, length-set, length-replicate, get_or-replicate}
 use lib.Seq.{paste, paste-suc}
-use Rattle.ascii.proofs.Lengths.{paste-whole}
+use Rattle.ascii.proofs.Lengths.{paste_whole}
 use Rattle.ascii.proofs.buffer.fill_spaces.Goals as goal
 
 pub loop-i-preserved : goal.loop-i-preserved
@@ -23,4 +23,4 @@ pub returns : goal.returns
 returns c =
     let n = length-replicate {A = ℕ} c.args.n 32 in
     c.loop-i.invariant.2
-    ∙ paste-whole c.args.out.now c.args.at (replicate c.args.n 32) c.loop-i.i (omega (arith, n))
+    ∙ paste_whole c.args.out.now c.args.at (replicate c.args.n 32) c.loop-i.i (omega (arith, n))

@@ -1,7 +1,7 @@
 -- `put` meets its contract: by the test of room.
 use Rattle.std.proofs.Common.{sym}
 use borrow.Author.Tests.{leb-true, leb-false}
-use Rattle.ascii.proofs.Chain.{tried, not-tried}
+use Rattle.ascii.proofs.Chain.{tried, not_tried}
 use Rattle.ascii.proofs.buffer.put.Goals as goal
 
 pub returns-then-has_room : goal.returns-then-has_room
@@ -13,5 +13,5 @@ returns-then-has_room c =
 
 pub returns : goal.returns
 returns c =
-    let t = not-tried c.args.out.now c.args.at c.args.text.now (leb-false _ _ (sym c.if-has_room.ensures)) in
+    let t = not_tried c.args.out.now c.args.at c.args.text.now (leb-false _ _ (sym c.if-has_room.ensures)) in
     record { place = t.0; buffer = t.1 }

@@ -1,10 +1,10 @@
 -- `parse_number` meets its contract: a digit takes the number on, and what is no digit, or too much, ends it.
 use Rattle.std.proofs.Common.{sym, ◌∙◌, arith}
-use Rattle.ascii.proofs.Reading.{number-none, number-is, from_next, from-stop, from_end}
+use Rattle.ascii.proofs.Reading.{number_none, number_is, from_next, from_stop, from_end}
 use Rattle.ascii.proofs.digits.parse_number.Goals as goal
 
 pub returns-then-text-eq0 : goal.returns-then-text-eq0
-returns-then-text-eq0 c = sym (number-none _ c.if-text-eq0.true)
+returns-then-text-eq0 c = sym (number_none _ c.if-text-eq0.true)
 
 pub loop-i-preserved : goal.loop-i-preserved
 loop-i-preserved c =
@@ -16,13 +16,13 @@ loop-i-preserved c =
 pub returns-in-Nothing : goal.returns-in-Nothing
 returns-in-Nothing c =
     let l = c.loop-i in
-    sym (from-stop l.n c.args.text.now l.i c.loop-i-test.true (sym c.in-Nothing.ensures))
+    sym (from_stop l.n c.args.text.now l.i c.loop-i-test.true (sym c.in-Nothing.ensures))
     ∙ l.invariant.1
-    ∙ number-is c.args.text.now c.if-text-eq0.false
+    ∙ number_is c.args.text.now c.if-text-eq0.false
 
 pub returns : goal.returns
 returns c =
     let l = c.loop-i in
     sym (from_end l.n c.args.text.now l.i c.loop-i-test.false)
     ∙ l.invariant.1
-    ∙ number-is c.args.text.now c.if-text-eq0.false
+    ∙ number_is c.args.text.now c.if-text-eq0.false

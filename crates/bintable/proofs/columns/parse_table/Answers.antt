@@ -1,14 +1,14 @@
 -- `parse_table` meets its contract: the size of the data fits, and the data area is checked last.
 use Rattle.std.proofs.Common.{arith}
 use Rattle.bintable.specs.Entry.{check10}
-use Rattle.bintable.proofs.Entered.{layout-size, entry-parts}
+use Rattle.bintable.proofs.Entered.{layout_size, entry_parts}
 use Rattle.bintable.proofs.columns.parse_table.Goals as goal
 
 pub overflow_mul-size : goal.overflow_mul-size
-overflow_mul-size c = rw c.read_layout-read.ensures.layout (omega (arith, (layout-size c.args.header.now c.requires.1.1).0))
+overflow_mul-size c = rw c.read_layout-read.ensures.layout (omega (arith, (layout_size c.args.header.now c.requires.1.1).0))
 
 pub overflow_add-size : goal.overflow_add-size
-overflow_add-size c = rw c.read_layout-read.ensures.layout (omega (arith, layout-size c.args.header.now c.requires.1.1))
+overflow_add-size c = rw c.read_layout-read.ensures.layout (omega (arith, layout_size c.args.header.now c.requires.1.1))
 
 pub returns-clause-check : goal.returns-clause-check
 unfolding check10
@@ -20,7 +20,7 @@ returns-clause-check c =
       c.check10-long.ensures,
       c.read_layout-read.ensures.check,
       c.read_layout-read.ensures.layout,
-      entry-parts h a,
+      entry_parts h a,
       c.requires.1.0,
       c.requires.1.1,
     )
@@ -35,7 +35,7 @@ returns-clause-layout c =
       c.check10-long.ensures,
       c.read_layout-read.ensures.check,
       c.read_layout-read.ensures.layout,
-      entry-parts h a,
+      entry_parts h a,
       c.requires.1.0,
       c.requires.1.1,
     )

@@ -1,16 +1,16 @@
 -- `read_column` meets its contract: the records that the index has for the form and the name, and their checks in order.
 use Rattle.std.proofs.Common.{sym, ◌∙◌}
-use Rattle.bintable.specs.Entry.{columnCheck}
-use Rattle.bintable.proofs.Checked.{first-four}
-use Rattle.bintable.proofs.Index.{at-tform, at-ttype}
-use Rattle.bintable.proofs.Filled.{value-fits}
+use Rattle.bintable.specs.Entry.{column_check}
+use Rattle.bintable.proofs.Checked.{first_four}
+use Rattle.bintable.proofs.Index.{at_tform, at_ttype}
+use Rattle.bintable.proofs.Filled.{value_fits}
 use Rattle.bintable.proofs.columns.read_column.Goals as goal
 
 pub name_in-requires : goal.name_in-requires
-name_in-requires c = λ a n e. value-fits c.args.header.now c.record_of-name_record.result c.requires.1.0 a n (sym c.value_of-name.ensures ∙ e)
+name_in-requires c = λ a n e. value_fits c.args.header.now c.record_of-name_record.result c.requires.1.0 a n (sym c.value_of-name.ensures ∙ e)
 
 pub returns-clause-check : goal.returns-clause-check
-unfolding columnCheck
+unfolding column_check
 returns-clause-check c = rw (
   c.before-check.ensures,
   c.before-3.ensures,
@@ -27,9 +27,9 @@ returns-clause-check c = rw (
   c.value_of-value.ensures,
   c.record_of-name_record.ensures,
   c.record_of-form_record.ensures,
-  at-tform c.args.header.now c.args.first.now c.requires.0 c.args.i c.requires.1.1,
-  at-ttype c.args.header.now c.args.first.now c.requires.0 c.args.i c.requires.1.1,
-) (first-four _ _ _ _)
+  at_tform c.args.header.now c.args.first.now c.requires.0 c.args.i c.requires.1.1,
+  at_ttype c.args.header.now c.args.first.now c.requires.0 c.args.i c.requires.1.1,
+) (first_four _ _ _ _)
 
 pub returns-clause-column : goal.returns-clause-column
 returns-clause-column c = rw (
@@ -42,6 +42,6 @@ returns-clause-column c = rw (
   c.value_of-value.ensures,
   c.record_of-name_record.ensures,
   c.record_of-form_record.ensures,
-  at-tform c.args.header.now c.args.first.now c.requires.0 c.args.i c.requires.1.1,
-  at-ttype c.args.header.now c.args.first.now c.requires.0 c.args.i c.requires.1.1,
+  at_tform c.args.header.now c.args.first.now c.requires.0 c.args.i c.requires.1.1,
+  at_ttype c.args.header.now c.args.first.now c.requires.0 c.args.i c.requires.1.1,
 )

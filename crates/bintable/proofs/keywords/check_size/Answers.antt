@@ -1,6 +1,6 @@
 -- `check_size` meets its contract: a name that must be there, then its limit.
 use Rattle.bintable.specs.Entry.{limited}
-use Rattle.bintable.proofs.Checked.{three-then}
+use Rattle.bintable.proofs.Checked.{three_then}
 use Rattle.bintable.proofs.keywords.check_size.Goals as goal
 
 pub returns : goal.returns
@@ -12,4 +12,4 @@ returns c = rw (
   c.is_integer.ensures,
   c.not_negative-right.ensures,
   c.value_of-value.ensures,
-) (three-then _ _ _ _)
+) (three_then _ _ _ _)

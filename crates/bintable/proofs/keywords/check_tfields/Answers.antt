@@ -1,6 +1,6 @@
 -- `check_tfields` meets its contract: a name that must be there, with a number in its range, then its limit.
 use Rattle.bintable.specs.Entry.{limited}
-use Rattle.bintable.proofs.Checked.{three-then}
+use Rattle.bintable.proofs.Checked.{three_then}
 use Rattle.bintable.proofs.keywords.check_tfields.Goals as goal
 
 pub returns : goal.returns
@@ -12,4 +12,4 @@ returns c = rw (
   c.is_integer.ensures,
   c.is_within-right.ensures,
   c.value_of-value.ensures,
-) (three-then _ _ _ _)
+) (three_then _ _ _ _)

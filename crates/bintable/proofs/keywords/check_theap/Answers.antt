@@ -1,10 +1,10 @@
 -- `check_theap` meets its contract: two checks of a record that may be missing.
-use Rattle.bintable.specs.Entry.{theapCheck}
-use Rattle.bintable.proofs.Checked.{first-two}
+use Rattle.bintable.specs.Entry.{theap_check}
+use Rattle.bintable.proofs.Checked.{first_two}
 use Rattle.bintable.proofs.keywords.check_theap.Goals as goal
 
 pub returns : goal.returns
-unfolding theapCheck
+unfolding theap_check
 returns c = rw (
   c.before-2.ensures,
   c.check6-c6.ensures,
@@ -12,4 +12,4 @@ returns c = rw (
   c.check5-c5.ensures,
   c.is_integer.ensures,
   c.value_of-value.ensures,
-) (first-two _ _)
+) (first_two _ _)

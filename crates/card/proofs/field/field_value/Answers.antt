@@ -1,29 +1,29 @@
 -- `field_value` meets its contract: the value begins after the leading spaces.
 use Rattle.std.proofs.Common.{ℕ, ◌+◌, drop, length-drop, ◌∙◌, ap, arith}
 use Rattle.ascii.specs.Text.{space}
-use Rattle.ascii.proofs.Front.{front-le}
-use Rattle.ascii.proofs.Parts.{part-from}
-use Rattle.card.specs.Value.{valueFrom, fieldValue}
+use Rattle.ascii.proofs.Front.{front_le}
+use Rattle.ascii.proofs.Parts.{part_from}
+use Rattle.card.specs.Value.{value_from, field_value}
 use Rattle.card.proofs.field.field_value.Goals as goal
 
 pub slice_bounds-value_from-count : goal.slice_bounds-value_from-count
-slice_bounds-value_from-count c = omega (arith, front-le space c.args.f.now)
+slice_bounds-value_from-count c = omega (arith, front_le space c.args.f.now)
 
 pub slice_bounds-value_from-start : goal.slice_bounds-value_from-start
-slice_bounds-value_from-start c = omega (arith, front-le space c.args.f.now)
+slice_bounds-value_from-start c = omega (arith, front_le space c.args.f.now)
 
 pub overflow_add-start : goal.overflow_add-start
-overflow_add-start c = omega (arith, front-le space c.args.f.now)
+overflow_add-start c = omega (arith, front_le space c.args.f.now)
 
 pub value_from-requires : goal.value_from-requires
 value_from-requires c =
-    rw (part-from c.args.f.now c.leading_spaces-n.result, length-drop) (omega (arith, front-le space c.args.f.now))
+    rw (part_from c.args.f.now c.leading_spaces-n.result, length-drop) (omega (arith, front_le space c.args.f.now))
 
 pub returns : goal.returns
-unfolding fieldValue
+unfolding field_value
 returns c =
     let f = c.args.f.now in
     let start = c.args.start in
     let n = c.leading_spaces-n.result in
-    c.value_from.ensures ∙ ap (valueFrom (start + n)) (part-from f n)
-    ∙ ap (λ (m : ℕ). valueFrom (start + m) (drop m f)) c.leading_spaces-n.ensures
+    c.value_from.ensures ∙ ap (value_from (start + n)) (part_from f n)
+    ∙ ap (λ (m : ℕ). value_from (start + m) (drop m f)) c.leading_spaces-n.ensures

@@ -3,23 +3,23 @@ use Rattle.std.proofs.Common.{ℕ, List, length, take, sym, ap, ◌∙◌, arith
 use lib.Seq.{length-take-le}
 use Rattle.ascii.specs.Text.{same}
 use Rattle.ascii.proofs.Chain.{front}
-use Rattle.output.specs.State.{fileLeft}
-use Rattle.output.specs.Page.{pageText}
-use Rattle.output.proofs.Whole.{page-length}
+use Rattle.output.specs.State.{file_left}
+use Rattle.output.specs.Page.{page_text}
+use Rattle.output.proofs.Whole.{page_length}
 use Rattle.cases.proofs.compare.compare_page.Goals as goal
 
 pub slice_bounds-out-end : goal.slice_bounds-out-end
 slice_bounds-out-end c =
     let a = c.args in
     let p = c.next_page-page in
-    let x = page-length (length c.zeros-out.result) (fileLeft a.file.now a.layout a.steps.now a.state) in
+    let x = page_length (length c.zeros-out.result) (file_left a.file.now a.layout a.steps.now a.state) in
     omega (arith, p.ensures.len, p.auto.out, x)
 
 pub slice_bounds-begins_with-end : goal.slice_bounds-begins_with-end
 slice_bounds-begins_with-end c =
     let a = c.args in
     let p = c.next_page-page in
-    let x = page-length (length c.zeros-out.result) (fileLeft a.file.now a.layout a.steps.now a.state) in
+    let x = page_length (length c.zeros-out.result) (file_left a.file.now a.layout a.steps.now a.state) in
     sym (length-take-le p.result.len p.new.out (omega (arith, p.ensures.len, p.auto.out, x)))
 
 pub returns-clause-begins : goal.returns-clause-begins
@@ -28,9 +28,9 @@ returns-clause-begins c =
     let p = c.next_page-page in
     let out = c.zeros-out.result in
     let text = a.text.now in
-    let lines = fileLeft a.file.now a.layout a.steps.now a.state in
-    let page = pageText (length out) lines in
-    let x = page-length (length out) lines in
+    let lines = file_left a.file.now a.layout a.steps.now a.state in
+    let page = page_text (length out) lines in
+    let x = page_length (length out) lines in
     let f =
     front out page {p = p.result.len} (omega (arith, p.ensures.len, x))
     (omega (arith, p.ensures.len), p.ensures.buffer) in

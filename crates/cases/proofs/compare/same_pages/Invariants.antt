@@ -2,16 +2,16 @@
 -- number of lines left.
 use Rattle.std.proofs.Common.{◌≡◌, ◌≤◌, length, drop}
 use Rattle.ascii.specs.Text.{same}
-use Rattle.output.specs.State.{fileLeft}
-use Rattle.output.specs.Page.{linesText}
+use Rattle.output.specs.State.{file_left}
+use Rattle.output.specs.Page.{lines_text}
 use Rattle.cases.proofs.compare.same_pages.Given as goal
 
 abbrev pub invariant-loop-layout : goal.invariant-loop-layout
 invariant-loop-layout l = record {
   inside : l.at ≤ length l.text;
-  beside : same (drop l.at l.text) (linesText (fileLeft l.file l.layout l.steps l.current))
-      ≡ same l.text (linesText (fileLeft l.file l.layout l.steps l.fn.state));
+  beside : same (drop l.at l.text) (lines_text (file_left l.file l.layout l.steps l.current))
+      ≡ same l.text (lines_text (file_left l.file l.layout l.steps l.fn.state));
 }
 
 abbrev pub decreases-loop-layout : goal.decreases-loop-layout
-decreases-loop-layout l = length (fileLeft l.file l.layout l.steps l.current)
+decreases-loop-layout l = length (file_left l.file l.layout l.steps l.current)

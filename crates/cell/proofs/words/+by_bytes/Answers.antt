@@ -2,12 +2,12 @@
 use Rattle.std.proofs.Common.{◌≡◌, ℕ, ◌-◌, ◌^◌, ◌<◌, ◌≤◌, List, get_or, arith}
 use native.Mathlib.Nat.{add_assoc}
 use Rattle.cell.specs.Item.{word}
-use Rattle.cell.proofs.Numbers.{word-last, word-seven}
+use Rattle.cell.proofs.Numbers.{word_last, word_seven}
 use Rattle.cell.proofs.words.+by_bytes.Goals as goal
 
 -- the bytes but one are seven at the most
 rest : (a : List ℕ) (p k : ℕ) {x : ℕ} → ((i : ℕ) → get_or a i 0 < 256) → k ≤ 8 → x ≡ word a p (k - 1) → x < 256 ^ 7
-rest a p k below h e = rw e (word-seven a below p (k - 1) (omega arith))
+rest a p k below h e = rw e (word_seven a below p (k - 1) (omega arith))
 
 pub returns-then-k-eq0 : goal.returns-then-k-eq0
 unfolding word
@@ -23,4 +23,4 @@ overflow_add-result t c =
 
 pub returns : goal.returns
 returns t c =
-    word-last _ _ _ c.if-k-eq0.false c.by_bytes.ensures (simp (← add_assoc c.args.at c.args.from) at c.byte.ensures)
+    word_last _ _ _ c.if-k-eq0.false c.by_bytes.ensures (simp (← add_assoc c.args.at c.args.from) at c.byte.ensures)

@@ -1,9 +1,9 @@
 -- `refused` meets its contract: there are as many entries as names with a slot.
 use Rattle.std.proofs.Common.{ℕ, replicate, refl, sym, ap}
-use Rattle.keyword.specs.Names.{single, onceRoots, otherRoots}
-use Rattle.keyword.proofs.Slots.{slots-length}
+use Rattle.keyword.specs.Names.{single, once_roots, other_roots}
+use Rattle.keyword.proofs.Slots.{slots_length}
 use Rattle.header.proofs.records.refused.Goals as goal
 
 pub returns : goal.returns
-unfolding single onceRoots otherRoots
-returns c = let e = ap (λ (n : ℕ). replicate {A = ℕ} n 0) (sym slots-length) in (refl, (e, e))
+unfolding single once_roots other_roots
+returns c = let e = ap (λ (n : ℕ). replicate {A = ℕ} n 0) (sym slots_length) in (refl, (e, e))

@@ -2,10 +2,10 @@
 use Rattle.std.proofs.Common.{◌≡◌, ℕ, ◌+◌, List, ◌++◌, take, ap, ◌∙◌, arith}
 use lib.ListN.{length-set}
 use lib.Seq.{slice}
-use Rattle.listing.specs.Text.{hexText}
-use Rattle.ascii.proofs.Chain.{fitted, tried-as}
-use Rattle.listing.proofs.Lengths.{hex-length}
-use Rattle.listing.proofs.Turns.{hex-turn}
+use Rattle.listing.specs.Text.{hex_text}
+use Rattle.ascii.proofs.Chain.{fitted, tried_as}
+use Rattle.listing.proofs.Lengths.{hex_length}
+use Rattle.listing.proofs.Turns.{hex_turn}
 use Rattle.listing.proofs.digits.put_hex.Goals as goal
 
 pub loop-i-preserved : goal.loop-i-preserved
@@ -14,19 +14,19 @@ loop-i-preserved c =
     let a = c.args in record {
       long = simp length-set l.invariant.long;
       within = omega arith;
-      text = hex-turn l.i a.width l.rest c.hex_digit.result l.digits c.loop-i-test.true l.invariant.within (omega arith) c.hex_digit.ensures ∙ l.invariant.text;
+      text = hex_turn l.i a.width l.rest c.hex_digit.result l.digits c.loop-i-test.true l.invariant.within (omega arith) c.hex_digit.ensures ∙ l.invariant.text;
     }
 
-set-down : (i k rest : ℕ) (t : List ℕ) → i ≡ 0 → take k t ≡ hexText i rest ++ slice i k t
-unfolding hexText
-set-down i k rest t e = rw e
+set_down : (i k rest : ℕ) (t : List ℕ) → i ≡ 0 → take k t ≡ hex_text i rest ++ slice i k t
+unfolding hex_text
+set_down i k rest t e = rw e
 
 pub returns : goal.returns
 returns c =
     let l = c.loop-i in
     let a = c.args in
-    let e = set-down l.i a.width l.rest l.digits (omega arith) ∙ l.invariant.text in
-    let n = hex-length a.width a.n in
-    let t = tried-as a.out.now a.at e (c.put.ensures.place, c.put.ensures.buffer) in
-    let p = fitted a.out.now a.at (hexText a.width a.n) (omega (arith, n)) t in
+    let e = set_down l.i a.width l.rest l.digits (omega arith) ∙ l.invariant.text in
+    let n = hex_length a.width a.n in
+    let t = tried_as a.out.now a.at e (c.put.ensures.place, c.put.ensures.buffer) in
+    let p = fitted a.out.now a.at (hex_text a.width a.n) (omega (arith, n)) t in
     record { place = p.0 ∙ ap (λ (k : ℕ). a.at + k) n; buffer = p.1 }

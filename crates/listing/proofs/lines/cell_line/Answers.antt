@@ -3,17 +3,17 @@ use Rattle.std.proofs.Common.{sym, length, ◌≡◌, ◌≤◌, [], ◌∷◌, 
 use lib.Seq.{length-take-le}
 use Rattle.ascii.specs.Text.{bytes}
 use Rattle.cell.specs.declared.Cell.{Cell}
-use Rattle.ascii.specs.Number.{decimalText}
-use Rattle.listing.specs.Text.{valueText}
-use Rattle.listing.specs.Lines.{line, cellLine}
-use Rattle.ascii.proofs.Chain.{joined, front, shown, number-room, count_room}
-use Rattle.listing.proofs.Short.{value-length}
+use Rattle.ascii.specs.Number.{decimal_text}
+use Rattle.listing.specs.Text.{value_text}
+use Rattle.listing.specs.Lines.{line, cell_line}
+use Rattle.ascii.proofs.Chain.{joined, front, shown, number_room, count_room}
+use Rattle.listing.proofs.Short.{value_length}
 use Rattle.listing.proofs.lines.cell_line.Goals as goal
 
 whole : (x : Cell)
-    → (bytes "cell" ++ (32 ∷ (decimalText x.row ++ (32 ∷ []))))
-    ++ ((decimalText x.column ++ (32 ∷ [])) ++ ((decimalText x.idx ++ (32 ∷ [])) ++ (valueText x.value ++ (10 ∷ [])))) ≡ cellLine x
-unfolding cellLine line
+    → (bytes "cell" ++ (32 ∷ (decimal_text x.row ++ (32 ∷ []))))
+    ++ ((decimal_text x.column ++ (32 ∷ [])) ++ ((decimal_text x.idx ++ (32 ∷ [])) ++ (value_text x.value ++ (10 ∷ [])))) ≡ cell_line x
+unfolding cell_line line
 whole x = simp append_assoc
 
 pub put_number-idx-requires : goal.put_number-idx-requires
@@ -22,32 +22,32 @@ put_number-idx-requires c = omega (arith, count_room c.args.cell.row 32 (bytes "
 
 pub put_number-next-requires : goal.put_number-next-requires
 unfolding bytes
-put_number-next-requires c = let x = c.args.cell in omega (arith, count_room x.row 32 (bytes "cell"), number-room x.column 32)
+put_number-next-requires c = let x = c.args.cell in omega (arith, count_room x.row 32 (bytes "cell"), number_room x.column 32)
 
 pub put_value-feed-requires : goal.put_value-feed-requires
 unfolding bytes
 put_value-feed-requires c =
     let x = c.args.cell in
-    omega (arith, count_room x.row 32 (bytes "cell"), number-room x.column 32, number-room x.idx 32)
+    omega (arith, count_room x.row 32 (bytes "cell"), number_room x.column 32, number_room x.idx 32)
 
 pub put_byte-whole-requires : goal.put_byte-whole-requires
 unfolding bytes
 put_byte-whole-requires c =
     let x = c.args.cell in
-    omega (arith, count_room x.row 32 (bytes "cell"), number-room x.column 32, number-room x.idx 32, value-length x.value)
+    omega (arith, count_room x.row 32 (bytes "cell"), number_room x.column 32, number_room x.idx 32, value_length x.value)
 
 pub slice_bounds-text-end : goal.slice_bounds-text-end
 unfolding bytes
 slice_bounds-text-end c =
     let x = c.args.cell in
-    omega (arith, count_room x.row 32 (bytes "cell"), number-room x.column 32, number-room x.idx 32, value-length x.value)
+    omega (arith, count_room x.row 32 (bytes "cell"), number_room x.column 32, number_room x.idx 32, value_length x.value)
 
 pub slice_bounds-put_text-end : goal.slice_bounds-put_text-end
 unfolding bytes
 slice_bounds-put_text-end c =
     let x = c.args.cell in
     let n = c.put_byte-whole in
-    let h : n.result ≤ length n.new.out = omega (arith, count_room x.row 32 (bytes "cell"), number-room x.column 32, number-room x.idx 32, value-length x.value) in
+    let h : n.result ≤ length n.new.out = omega (arith, count_room x.row 32 (bytes "cell"), number_room x.column 32, number_room x.idx 32, value_length x.value) in
     sym (length-take-le n.result n.new.out h)
 
 pub returns : goal.returns
@@ -62,7 +62,7 @@ returns c =
     let five = c.put_byte-whole.ensures in
     let e = c.put_text.ensures in
     let room : c.put_byte-whole.result ≤ 128 =
-    omega (arith, count_room x.row 32 (bytes "cell"), number-room x.column 32, number-room x.idx 32, value-length x.value) in
+    omega (arith, count_room x.row 32 (bytes "cell"), number_room x.column 32, number_room x.idx 32, value_length x.value) in
     let s =
     shown a.out.now a.at
     (front _ _ (omega arith)

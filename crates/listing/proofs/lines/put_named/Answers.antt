@@ -1,24 +1,24 @@
 -- `put_named` meets its contract: the three tests together say whether there is room.
 use Rattle.std.proofs.Common.{[], ◌∷◌, ◌++◌, length-append, arith}
-use Rattle.ascii.proofs.Chain.{fitted, joined, no-room, room}
+use Rattle.ascii.proofs.Chain.{fitted, joined, no_room, room}
 use Rattle.listing.proofs.lines.put_named.Goals as goal
 
 pub returns-then-out-at : goal.returns-then-out-at
 returns-then-out-at c =
     let a = c.args in
-    let s = no-room a.out.now a.at (a.start.now ++ (a.name.now ++ (10 ∷ []))) (simp length-append (omega arith)) in
+    let s = no_room a.out.now a.at (a.start.now ++ (a.name.now ++ (10 ∷ []))) (simp length-append (omega arith)) in
     record { to = s.0; buffer = s.1 }
 
 pub returns-then-out-at-2 : goal.returns-then-out-at-2
 returns-then-out-at-2 c =
     let a = c.args in
-    let s = no-room a.out.now a.at (a.start.now ++ (a.name.now ++ (10 ∷ []))) (simp length-append (omega arith)) in
+    let s = no_room a.out.now a.at (a.start.now ++ (a.name.now ++ (10 ∷ []))) (simp length-append (omega arith)) in
     record { to = s.0; buffer = s.1 }
 
 pub returns-then-out-at-3 : goal.returns-then-out-at-3
 returns-then-out-at-3 c =
     let a = c.args in
-    let s = no-room a.out.now a.at (a.start.now ++ (a.name.now ++ (10 ∷ []))) (simp length-append (omega arith)) in
+    let s = no_room a.out.now a.at (a.start.now ++ (a.name.now ++ (10 ∷ []))) (simp length-append (omega arith)) in
     record { to = s.0; buffer = s.1 }
 
 pub put_word-requires : goal.put_word-requires

@@ -3,16 +3,16 @@ use Rattle.std.proofs.Common.{sym, length, ◌≡◌, ◌≤◌, [], ◌∷◌, 
 use lib.Seq.{length-take-le}
 use Rattle.ascii.specs.Text.{bytes}
 use Rattle.layout.specs.declared.BinTable.{BinTable}
-use Rattle.ascii.specs.Number.{decimalText}
-use Rattle.listing.specs.Lines.{line, tableLine}
+use Rattle.ascii.specs.Number.{decimal_text}
+use Rattle.listing.specs.Lines.{line, table_line}
 use Rattle.ascii.proofs.Chain.{joined, front, shown, count_room}
 use Rattle.listing.proofs.lines.table_line.Goals as goal
 
 whole : (l : BinTable)
-    → (bytes "table" ++ (32 ∷ (decimalText l.tfields ++ (32 ∷ []))))
-    ++ ((bytes "columns" ++ (32 ∷ (decimalText l.naxis2 ++ (32 ∷ []))))
-    ++ ((bytes "rows" ++ (32 ∷ (decimalText l.naxis1 ++ (32 ∷ [])))) ++ (bytes "bytes" ++ (10 ∷ [])))) ≡ tableLine l
-unfolding tableLine line
+    → (bytes "table" ++ (32 ∷ (decimal_text l.tfields ++ (32 ∷ []))))
+    ++ ((bytes "columns" ++ (32 ∷ (decimal_text l.naxis2 ++ (32 ∷ []))))
+    ++ ((bytes "rows" ++ (32 ∷ (decimal_text l.naxis1 ++ (32 ∷ [])))) ++ (bytes "bytes" ++ (10 ∷ [])))) ≡ table_line l
+unfolding table_line line
 whole l = simp append_assoc
 
 pub put_count-rows-requires : goal.put_count-rows-requires

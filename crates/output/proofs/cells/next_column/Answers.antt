@@ -2,21 +2,21 @@
 use Rattle.std.proofs.Common.{◌≡◌, ◌∙◌, true, List, ℕ, ◌≤◌}
 use Rattle.layout.specs.declared.BinTable.{BinTable}
 use Rattle.walk.specs.declared.Opened.{Opened}
-use Rattle.walk.specs.Step.{allColumns, openWith, openingOf}
+use Rattle.walk.specs.Step.{all_columns, open_with, opening_of}
 use Rattle.output.specs.declared.State.TheVariants.{Column}
 use Rattle.output.specs.State.{left}
-use Rattle.output.proofs.Entries.{openLines, open-lines, column-next, columns-over}
+use Rattle.output.proofs.Entries.{open_lines, open_lines_lem, column_next, columns_over}
 use Rattle.output.proofs.cells.next_column.Goals as goal
 
 -- what the opening says of the lines that were left
 after : (h : List ℕ) (l : BinTable) (a s : List ℕ) (k : ℕ) (o : Opened)
-    → openingOf o ≡ openWith l a allColumns true → l.tfields ≤ k
-    → openLines h l a s o.check o.cursor ≡ left h l a s (Column k)
-after h l a s k o told over = open-lines h l a s o told ∙ columns-over h l a s k over
+    → opening_of o ≡ open_with l a all_columns true → l.tfields ≤ k
+    → open_lines h l a s o.check o.cursor ≡ left h l a s (Column k)
+after h l a s k o told over = open_lines_lem h l a s o told ∙ columns_over h l a s k over
 
 pub returns-then-c-layout : goal.returns-then-c-layout
 returns-then-c-layout c =
-    column-next c.args.header.now c.args.layout c.args.area.now c.args.steps.now c.args.c c.if-c-layout.true
+    column_next c.args.header.now c.args.layout c.args.area.now c.args.steps.now c.args.c c.if-c-layout.true
 
 pub returns-in-Refused : goal.returns-in-Refused
 returns-in-Refused c =

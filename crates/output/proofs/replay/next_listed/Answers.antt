@@ -1,10 +1,10 @@
 -- `next_listed` meets its contract: the row is read anew, and what it stored says whether a cell is next.
-use Rattle.output.proofs.Lines.{listed-next}
+use Rattle.output.proofs.Lines.{listed_next}
 use Rattle.output.proofs.replay.next_listed.Goals as goal
 
 pub returns-then-k-stored : goal.returns-then-k-stored
 returns-then-k-stored c =
     let read = rw c.blank_cell.ensures at c.row_cell-read.ensures in
-    listed-next c.args.header.now c.args.layout c.args.area.now c.args.steps.now c.args.at
+    listed_next c.args.header.now c.args.layout c.args.area.now c.args.steps.now c.args.at
     c.args.reader c.args.len c.args.k c.row_cell-read.result read.step read.cell
     (rw c.stored.ensures at c.if-k-stored.true)

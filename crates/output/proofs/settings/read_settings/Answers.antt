@@ -2,23 +2,23 @@
 -- not ends the reading.
 use Rattle.std.proofs.Common.{◌≡◌, ◌∙◌, sym, refl, List, ℕ, length}
 use Rattle.steps.specs.declared.Command.{Command}
-use Rattle.steps.specs.Split.{lineAt, lineFeeds}
-use Rattle.steps.specs.Line.{says, commandOf}
-use Rattle.steps.proofs.Lines.{line-length}
+use Rattle.steps.specs.Split.{line_at, line_feeds}
+use Rattle.steps.specs.Line.{says, command_of}
+use Rattle.steps.proofs.Lines.{line_length}
 use Rattle.output.specs.declared.settings.Settings.{Settings}
 use Rattle.output.specs.declared.settings.Change.{Change}
 use Rattle.output.specs.Settings.{changed}
-use Rattle.output.proofs.Before.{reading-next, reading-over, reading-end}
+use Rattle.output.proofs.Before.{reading_next, reading_over, reading_end}
 use Rattle.output.proofs.settings.read_settings.Goals as goal
 
 -- what the change says, of the line as the definition has it
 told : (s : List ℕ) (t : Settings) (line : List ℕ) (y : Command) (x : Change)
-    → line ≡ lineAt s t.at → y ≡ commandOf (says line) → x ≡ changed t y (length line)
-    → x ≡ changed t (commandOf (says (lineAt s t.at))) (length (lineAt s t.at))
+    → line ≡ line_at s t.at → y ≡ command_of (says line) → x ≡ changed t y (length line)
+    → x ≡ changed t (command_of (says (line_at s t.at))) (length (line_at s t.at))
 told s t line y x e f g = rw (← e, ← f) g
 
 pub loop-settings-init : goal.loop-settings-init
-unfolding lineFeeds
+unfolding line_feeds
 loop-settings-init c l a = refl
 
 pub returns-in_default : goal.returns-in_default
@@ -26,7 +26,7 @@ returns-in_default c =
     let s = c.args.steps.now in
     let t = c.loop-settings.settings in
     let h = c.loop-settings-test.true in
-    reading-over s t c.loop-settings.invariant h (length (lineAt s t.at)) (line-length s t.at h)
+    reading_over s t c.loop-settings.invariant h (length (line_at s t.at)) (line_length s t.at h)
     (sym c.in_default.is
     ∙ told s t c.line_at-line.result.now c.parse_command.result c.after_command-changed.result
     c.line_at-line.ensures c.parse_command.ensures c.after_command-changed.ensures)
@@ -36,10 +36,10 @@ loop-settings-preserved c =
     let s = c.args.steps.now in
     let t = c.loop-settings.settings in
     let h = c.loop-settings-test.true in
-    reading-next s t c.loop-settings.invariant h (length (lineAt s t.at)) (line-length s t.at h) c.in-To.next
+    reading_next s t c.loop-settings.invariant h (length (line_at s t.at)) (line_length s t.at h) c.in-To.next
     (sym c.in-To.is
     ∙ told s t c.line_at-line.result.now c.parse_command.result c.after_command-changed.result
     c.line_at-line.ensures c.parse_command.ensures c.after_command-changed.ensures)
 
 pub returns : goal.returns
-returns c = reading-end c.args.steps.now c.loop-settings.settings c.loop-settings.invariant c.loop-settings-test.false
+returns c = reading_end c.args.steps.now c.loop-settings.settings c.loop-settings.invariant c.loop-settings-test.false

@@ -1,22 +1,22 @@
 -- `any_plan` meets its contract: one case for each test.
 use Rattle.std.proofs.Common.{sym}
 use borrow.Author.Tests.{lt-ltb, le-ltb}
-use Rattle.walk.proofs.Steps.{belongs-fits}
-use Rattle.walk.proofs.Inside.{fits-layout}
-use Rattle.row.specs.Plan.{rowPlan}
+use Rattle.walk.proofs.Steps.{belongs_fits}
+use Rattle.walk.proofs.Inside.{fits_layout}
+use Rattle.row.specs.Plan.{row_plan}
 use Rattle.row.proofs.plan.any_plan.Goals as goal
 
 pub rest_of-rest-requires : goal.rest_of-rest-requires
 rest_of-rest-requires c =
-    (belongs-fits c.args.layout c.args.area.now c.args.cursor (sym c.if-belongs.ensures), c.if-cursor-layout.true)
+    (belongs_fits c.args.layout c.args.area.now c.args.cursor (sym c.if-belongs.ensures), c.if-cursor-layout.true)
 
 pub rest_plan-requires : goal.rest_plan-requires
 rest_plan-requires c =
-    let fit = belongs-fits c.args.layout c.args.area.now c.args.cursor (sym c.if-belongs.ensures) in
-    (fits-layout c.args.layout c.args.area.now fit, c.if-cursor-layout.true)
+    let fit = belongs_fits c.args.layout c.args.area.now c.args.cursor (sym c.if-belongs.ensures) in
+    (fits_layout c.args.layout c.args.area.now fit, c.if-cursor-layout.true)
 
 pub returns-then-cursor-layout : goal.returns-then-cursor-layout
-unfolding rowPlan
+unfolding row_plan
 returns-then-cursor-layout c =
     rw (
       sym c.if-belongs.ensures,
@@ -26,7 +26,7 @@ returns-then-cursor-layout c =
     )
 
 pub returns-then-belongs : goal.returns-then-belongs
-unfolding rowPlan
+unfolding row_plan
 returns-then-belongs c =
     rw (
       sym c.if-belongs.ensures,
@@ -35,5 +35,5 @@ returns-then-belongs c =
     )
 
 pub returns : goal.returns
-unfolding rowPlan
+unfolding row_plan
 returns c = rw (sym c.if-belongs.ensures, c.no_plan-2.ensures)

@@ -4,27 +4,27 @@ use Rattle.std.proofs.Common.{ℕ, ◌≡◌, ◌≤◌, Bool, true, cond, List,
 use lib.Dec.{eqb}
 use borrow.Author.Tests.{eqb-true}
 use Rattle.ascii.proofs.Cases.{both}
-use Rattle.tform.specs.Width.{countOk, fieldItems}
+use Rattle.tform.specs.Width.{count_ok, field_items}
 use Rattle.layout.specs.declared.BinTable.{BinTable}
-use Rattle.layout.specs.Layout.{columnsOf}
-use Rattle.layout.proofs.Ok.{column-limit}
-use Rattle.walk.specs.Plain.{columnOf, chosen, columnSize}
+use Rattle.layout.specs.Layout.{columns_of}
+use Rattle.layout.proofs.Ok.{column_limit}
+use Rattle.walk.specs.Plain.{column_of, chosen, column_size}
 use Rattle.walk.specs.Walk.{gather}
-use Rattle.walk.proofs.Inside.{fits-layout}
+use Rattle.walk.proofs.Inside.{fits_layout}
 use Rattle.walk.proofs.Laws.{from, from_end}
-use Rattle.table.specs.Scan.{plainColumn}
-use Rattle.table.proofs.Scanned.{Summed, summed-next, ready-says, ready-columns, ready-row, ready-few, summed-fits}
-use Rattle.row.proofs.PlainRow.{AllCells, plain_size, plain-all, plain-plan}
+use Rattle.table.specs.Scan.{plain_column}
+use Rattle.table.proofs.Scanned.{Summed, summed_next, ready_says, ready_columns, ready_row, ready_few, summed_fits}
+use Rattle.row.proofs.PlainRow.{AllCells, plain_size, plain_all, plain_plan}
 use Rattle.row.proofs.plan.row_plan.Goals as goal
 
 -- what the test of a column says
 record Ordered (l : BinTable) (choice k at : ℕ) : Type 0 where
-  count : countOk (columnOf l k).form (columnOf l k).count ≡ true
-  place : (columnOf l k).start ≡ at
-  plain : plainColumn (columnOf l k) (chosen choice k) ≡ true
+  count : count_ok (column_of l k).form (column_of l k).count ≡ true
+  place : (column_of l k).start ≡ at
+  plain : plain_column (column_of l k) (chosen choice k) ≡ true
 
 ordered : (l : BinTable) (choice k at : ℕ) (t : Bool) → t ≡ chosen choice k
-    → true ≡ ((countOk (columnOf l k).form (columnOf l k).count && eqb (columnOf l k).start at) && plainColumn (columnOf l k) t)
+    → true ≡ ((count_ok (column_of l k).form (column_of l k).count && eqb (column_of l k).start at) && plain_column (column_of l k) t)
     → Ordered l choice k at
 ordered l choice k at t is e =
     let q = both _ _ (sym e) in
@@ -32,36 +32,36 @@ ordered l choice k at t is e =
 
 -- the entries of a column
 sized : (l : BinTable) (a : List ℕ) (choice : ℕ) (heap : Bool) (r k at : ℕ) (t : Bool) (n : ℕ) → t ≡ chosen choice k
-    → n ≡ cond t (fieldItems (columnOf l k).form (columnOf l k).count) 0 → Ordered l choice k at → n ≡ columnSize l a choice heap r k
+    → n ≡ cond t (field_items (column_of l k).form (column_of l k).count) 0 → Ordered l choice k at → n ≡ column_size l a choice heap r k
 sized l a choice heap r k at t n is e o =
-    e ∙ ap (λ (u : Bool). cond u (fieldItems (columnOf l k).form (columnOf l k).count) 0) is ∙ plain_size l a choice heap r k o.plain
+    e ∙ ap (λ (u : Bool). cond u (field_items (column_of l k).form (column_of l k).count) 0) is ∙ plain_size l a choice heap r k o.plain
 
 -- the columns in use are as many as the layout says
-full : (l : BinTable) → length l.columns ≡ 64 → l.tfields ≤ 64 → length (columnsOf l) ≡ l.tfields
+full : (l : BinTable) → length l.columns ≡ 64 → l.tfields ≤ 64 → length (columns_of l) ≡ l.tfields
 full l e h = length-take l.tfields l.columns ∙ omega arith
 
 -- the pass over all columns
-none-later : (l : BinTable) (a : List ℕ) (choice : ℕ) (heap : Bool) (r k : ℕ) → l.tfields ≤ k → AllCells (from l a choice heap r k)
+none_later : (l : BinTable) (a : List ℕ) (choice : ℕ) (heap : Bool) (r k : ℕ) → l.tfields ≤ k → AllCells (from l a choice heap r k)
 unfolding gather
-none-later l a choice heap r k h = rw (from_end l a choice heap r k h)
+none_later l a choice heap r k h = rw (from_end l a choice heap r k h)
 
 pub bounds-layout-c : goal.bounds-layout-c
 bounds-layout-c c =
-    let y = ready-says c.args.layout c.args.area.now c.args.cursor.choice c.args.cursor.row (sym c.if-not-ready.ensures) in
-    omega (arith, ready-columns _ _ _ _ y)
+    let y = ready_says c.args.layout c.args.area.now c.args.cursor.choice c.args.cursor.row (sym c.if-not-ready.ensures) in
+    omega (arith, ready_columns _ _ _ _ y)
 
 pub offset_bounds-layout-c : goal.offset_bounds-layout-c
 offset_bounds-layout-c c =
-    let y = ready-says c.args.layout c.args.area.now c.args.cursor.choice c.args.cursor.row (sym c.if-not-ready.ensures) in
-    omega (arith, ready-columns _ _ _ _ y)
+    let y = ready_says c.args.layout c.args.area.now c.args.cursor.choice c.args.cursor.row (sym c.if-not-ready.ensures) in
+    omega (arith, ready_columns _ _ _ _ y)
 
 pub overflow_add-at : goal.overflow_add-at
 overflow_add-at c =
     let l = c.args.layout in
     let k = c.loop-c.c in
-    let y = ready-says l c.args.area.now c.args.cursor.choice c.args.cursor.row (sym c.if-not-ready.ensures) in
+    let y = ready_says l c.args.area.now c.args.cursor.choice c.args.cursor.row (sym c.if-not-ready.ensures) in
     let o = ordered l c.args.cursor.choice k c.loop-c.at _ c.chosen-is_chosen.ensures c.if-not-plain_in_order.ensures in
-    omega (arith, c.num_bytes_field-at.ensures, c.loop-c.invariant.summed.bytes, ready-columns _ _ _ _ y, column-limit (columnOf l k) o.count)
+    omega (arith, c.num_bytes_field-at.ensures, c.loop-c.invariant.summed.bytes, ready_columns _ _ _ _ y, column_limit (column_of l k) o.count)
 
 pub loop-c-preserved : goal.loop-c-preserved
 loop-c-preserved c =
@@ -69,17 +69,17 @@ loop-c-preserved c =
     let a = c.args.area.now in
     let r = c.args.cursor in
     let k = c.loop-c.c in
-    let y = ready-says l a r.choice r.row (sym c.if-not-ready.ensures) in
+    let y = ready_says l a r.choice r.row (sym c.if-not-ready.ensures) in
     let f : length l.columns ≡ 64 = omega arith in
     let o = ordered l r.choice k c.loop-c.at _ c.chosen-is_chosen.ensures c.if-not-plain_in_order.ensures in
     let z = sized l a r.choice r.heap r.row k c.loop-c.at _ c.item_cells-cells.result c.chosen-is_chosen.ensures c.item_cells-cells.ensures o in
-    let few : c.item_cells-cells.result ≤ 17594467745792 = rw z (ready-few l a r.choice r.row y r.heap k o.count) in
+    let few : c.item_cells-cells.result ≤ 17594467745792 = rw z (ready_few l a r.choice r.row y r.heap k o.count) in
     record {
       within = omega arith;
       summed = rw (add-one k, c.num_bytes_field-at.ensures)
-          (summed-next l a r.choice r.heap r.row (full l f (ready-columns _ _ _ _ y)) k c.loop-c.at c.loop-c.cells _ c.loop-c-test.true
+          (summed_next l a r.choice r.heap r.row (full l f (ready_columns _ _ _ _ y)) k c.loop-c.at c.loop-c.cells _ c.loop-c-test.true
           c.loop-c.invariant.summed few o.count o.place z);
-      cells = λ w. c.loop-c.invariant.cells (plain-all l a r.choice r.heap r.row k o.plain c.loop-c-test.true (rw add-one at w));
+      cells = λ w. c.loop-c.invariant.cells (plain_all l a r.choice r.heap r.row k o.plain c.loop-c-test.true (rw add-one at w));
     }
 
 pub rest_plan-requires : goal.rest_plan-requires
@@ -87,12 +87,12 @@ rest_plan-requires c =
     let l = c.args.layout in
     let a = c.args.area.now in
     let r = c.args.cursor in
-    let y = ready-says l a r.choice r.row (sym c.if-not-ready.ensures) in
+    let y = ready_says l a r.choice r.row (sym c.if-not-ready.ensures) in
     let f : length l.columns ≡ 64 = omega arith in
     let e : c.loop-c.c ≡ l.tfields = omega arith in
     let s = subst (λ (n : ℕ). Summed l a r.choice r.heap r.row n c.loop-c.at c.loop-c.cells) e c.loop-c.invariant.summed in (
-      fits-layout l a (summed-fits l a r c.loop-c.at c.loop-c.cells (full l f (ready-columns _ _ _ _ y)) y s c.if-at-layout.true),
-      ready-row l a r.choice r.row y,
+      fits_layout l a (summed_fits l a r c.loop-c.at c.loop-c.cells (full l f (ready_columns _ _ _ _ y)) y s c.if-at-layout.true),
+      ready_row l a r.choice r.row y,
     )
 
 pub returns-then-at-layout : goal.returns-then-at-layout
@@ -100,11 +100,11 @@ returns-then-at-layout c =
     let l = c.args.layout in
     let a = c.args.area.now in
     let r = c.args.cursor in
-    let y = ready-says l a r.choice r.row (sym c.if-not-ready.ensures) in
+    let y = ready_says l a r.choice r.row (sym c.if-not-ready.ensures) in
     let f : length l.columns ≡ 64 = omega arith in
     let e : c.loop-c.c ≡ l.tfields = omega arith in
     let s = subst (λ (n : ℕ). Summed l a r.choice r.heap r.row n c.loop-c.at c.loop-c.cells) e c.loop-c.invariant.summed in
     c.rest_plan.ensures
     ∙ sym
-    (plain-plan l a r c.loop-c.at c.loop-c.cells c.args.room (full l f (ready-columns _ _ _ _ y)) y s c.if-at-layout.true c.if-cursor-ne0.false
-    (c.loop-c.invariant.cells (none-later l a r.choice r.heap r.row c.loop-c.c c.loop-c-test.false)))
+    (plain_plan l a r c.loop-c.at c.loop-c.cells c.args.room (full l f (ready_columns _ _ _ _ y)) y s c.if-at-layout.true c.if-cursor-ne0.false
+    (c.loop-c.invariant.cells (none_later l a r.choice r.heap r.row c.loop-c.c c.loop-c-test.false)))

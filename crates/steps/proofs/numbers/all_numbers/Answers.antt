@@ -1,7 +1,7 @@
 -- `all_numbers` meets its contract: a part that is a number leaves it to the parts after it, and one that is none
 -- ends it.
 use Rattle.std.proofs.Common.{sym, ◌∙◌, arith}
-use Rattle.steps.proofs.Listing.{all-next, all-stop, all_end}
+use Rattle.steps.proofs.Listing.{all_next, all_stop, all_end}
 use Rattle.steps.proofs.numbers.all_numbers.Goals as goal
 
 pub loop-at-preserved : goal.loop-at-preserved
@@ -9,7 +9,7 @@ loop-at-preserved c =
     let s = c.args.text.now in
     let b = c.part_end-end in (
       omega (arith, b.ensures.inside),
-      sym (all-next s c.loop-at.at c.loop-at-test.true b.result b.ensures.part _ (sym c.in-At.ensures))
+      sym (all_next s c.loop-at.at c.loop-at-test.true b.result b.ensures.part _ (sym c.in-At.ensures))
           ∙ c.loop-at.invariant.1,
     )
 
@@ -17,7 +17,7 @@ pub returns-in-Nothing : goal.returns-in-Nothing
 returns-in-Nothing c =
     let b = c.part_end-end in
     sym
-    (all-stop c.args.text.now c.loop-at.at c.loop-at-test.true b.result b.ensures.part (sym c.in-Nothing.ensures))
+    (all_stop c.args.text.now c.loop-at.at c.loop-at-test.true b.result b.ensures.part (sym c.in-Nothing.ensures))
     ∙ c.loop-at.invariant.1
 
 pub returns : goal.returns

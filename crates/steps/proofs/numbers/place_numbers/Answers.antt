@@ -1,7 +1,7 @@
 -- `place_numbers` meets its contract: each number goes to its place, and no part is met that is none.
 use Rattle.std.proofs.Common.{sym, ◌∙◌, arith}
 use mathlib.Core.Bool.{false≢true}
-use Rattle.steps.proofs.Listing.{all-next, all-stop, place-next, place_end}
+use Rattle.steps.proofs.Listing.{all_next, all_stop, place_next, place_end}
 use Rattle.steps.proofs.numbers.place_numbers.Goals as goal
 
 pub loop-at-preserved : goal.loop-at-preserved
@@ -13,16 +13,16 @@ loop-at-preserved c =
     let number = sym c.in-At.ensures in (
       omega (arith, b.ensures.inside),
       c.place_number.auto.list ∙ l.invariant.1,
-      sym (all-next s l.at h b.result b.ensures.part _ number) ∙ l.invariant.2,
+      sym (all_next s l.at h b.result b.ensures.part _ number) ∙ l.invariant.2,
       rw c.place_number.ensures
-          (sym (place-next s l.at h b.result b.ensures.part l.list _ number l.invariant.2) ∙ l.invariant.3),
+          (sym (place_next s l.at h b.result b.ensures.part l.list _ number l.invariant.2) ∙ l.invariant.3),
     )
 
 pub returns-in-Nothing : goal.returns-in-Nothing
 returns-in-Nothing c =
     let l = c.loop-at in
     let b = c.part_end-end in
-    let none = all-stop c.args.text.now l.at c.loop-at-test.true b.result b.ensures.part (sym c.in-Nothing.ensures) in
+    let none = all_stop c.args.text.now l.at c.loop-at-test.true b.result b.ensures.part (sym c.in-Nothing.ensures) in
     absurd (false≢true (sym none ∙ l.invariant.2))
 
 pub returns : goal.returns

@@ -1,53 +1,53 @@
 -- `read_cell` meets its contract: the place that was found is that of the next entry.
 use Rattle.std.proofs.Common.{◌-◌, sym, ◌∙◌, arith}
-use Rattle.walk.specs.Plain.{rowEntries}
-use Rattle.walk.specs.Walk.{noEntry, next}
-use Rattle.walk.proofs.Inside.{fits-limits}
-use Rattle.walk.proofs.Laws.{is-next}
-use Rattle.walk.proofs.Steps.{belongs-fits, cell-at}
+use Rattle.walk.specs.Plain.{row_entries}
+use Rattle.walk.specs.Walk.{no_entry, next}
+use Rattle.walk.proofs.Inside.{fits_limits}
+use Rattle.walk.proofs.Laws.{is_next}
+use Rattle.walk.proofs.Steps.{belongs_fits, cell_at}
 use Rattle.table.proofs.Places.{place_at, place_none}
 use Rattle.table.proofs.step.read_cell.Goals as goal
 
 pub find_entry-place-requires : goal.find_entry-place-requires
-find_entry-place-requires c = belongs-fits c.args.layout c.args.area.now c.args.cursor c.requires
+find_entry-place-requires c = belongs_fits c.args.layout c.args.area.now c.args.cursor c.requires
 
 pub entry_at-entry-requires : goal.entry_at-entry-requires
 entry_at-entry-requires c =
-    let rows = rowEntries c.args.layout c.args.area.now c.args.cursor.choice c.args.cursor.heap in
+    let rows = row_entries c.args.layout c.args.area.now c.args.cursor.choice c.args.cursor.heap in
     let n = c.args.layout.naxis2 in
     let f = place_at rows n (next rows n (n - c.args.cursor.row) c.args.cursor.row c.args.cursor.passed) c.in-At.row c.in-At.passed c.in-At.size
-    (is-next rows n c.args.cursor.row c.args.cursor.passed) (sym c.find_entry-place.ensures ∙ c.in-At.is) in
-    (belongs-fits c.args.layout c.args.area.now c.args.cursor c.requires, f.1.1.1, rw f.1.0 at f.1.1.0)
+    (is_next rows n c.args.cursor.row c.args.cursor.passed) (sym c.find_entry-place.ensures ∙ c.in-At.is) in
+    (belongs_fits c.args.layout c.args.area.now c.args.cursor c.requires, f.1.1.1, rw f.1.0 at f.1.1.0)
 
 pub read_entry-requires : goal.read_entry-requires
 read_entry-requires c =
-    let rows = rowEntries c.args.layout c.args.area.now c.args.cursor.choice c.args.cursor.heap in
+    let rows = row_entries c.args.layout c.args.area.now c.args.cursor.choice c.args.cursor.heap in
     let n = c.args.layout.naxis2 in
     let f = place_at rows n (next rows n (n - c.args.cursor.row) c.args.cursor.row c.args.cursor.passed) c.in-At.row c.in-At.passed c.in-At.size
-    (is-next rows n c.args.cursor.row c.args.cursor.passed) (sym c.find_entry-place.ensures ∙ c.in-At.is) in (
+    (is_next rows n c.args.cursor.row c.args.cursor.passed) (sym c.find_entry-place.ensures ∙ c.in-At.is) in (
       omega (
         arith,
         f.1.1.1,
-        (fits-limits c.args.layout c.args.area.now (belongs-fits c.args.layout c.args.area.now c.args.cursor c.requires)).rows,
+        (fits_limits c.args.layout c.args.area.now (belongs_fits c.args.layout c.args.area.now c.args.cursor c.requires)).rows,
       ),
       f.1.1.0,
     )
 
 pub returns-in-At : goal.returns-in-At
 returns-in-At c =
-    let rows = rowEntries c.args.layout c.args.area.now c.args.cursor.choice c.args.cursor.heap in
+    let rows = row_entries c.args.layout c.args.area.now c.args.cursor.choice c.args.cursor.heap in
     let n = c.args.layout.naxis2 in
     let f = place_at rows n (next rows n (n - c.args.cursor.row) c.args.cursor.row c.args.cursor.passed) c.in-At.row c.in-At.passed c.in-At.size
-    (is-next rows n c.args.cursor.row c.args.cursor.passed) (sym c.find_entry-place.ensures ∙ c.in-At.is) in
+    (is_next rows n c.args.cursor.row c.args.cursor.passed) (sym c.find_entry-place.ensures ∙ c.in-At.is) in
     c.read_entry.ensures
-    ∙ rw (c.entry_at-entry.ensures, f.1.0) (sym (cell-at c.args.layout c.args.area.now c.args.cursor c.requires _ f.0))
+    ∙ rw (c.entry_at-entry.ensures, f.1.0) (sym (cell_at c.args.layout c.args.area.now c.args.cursor c.requires _ f.0))
 
 pub returns-in-Nothing : goal.returns-in-Nothing
 returns-in-Nothing c =
-    let rows = rowEntries c.args.layout c.args.area.now c.args.cursor.choice c.args.cursor.heap in
+    let rows = row_entries c.args.layout c.args.area.now c.args.cursor.choice c.args.cursor.heap in
     let n = c.args.layout.naxis2 in
     rw c.placed.ensures
     (sym
-    (cell-at c.args.layout c.args.area.now c.args.cursor c.requires noEntry
+    (cell_at c.args.layout c.args.area.now c.args.cursor c.requires no_entry
     (place_none rows n (next rows n (n - c.args.cursor.row) c.args.cursor.row c.args.cursor.passed)
     (sym c.find_entry-place.ensures ∙ c.in-Nothing.is))))

@@ -2,23 +2,23 @@
 use Rattle.std.proofs.Common.{take, sym, ◌∙◌, ne_eqb, arith}
 use Rattle.std.proofs.Math.Seq.{length-take-le}
 use Rattle.ascii.specs.Text.{decimal, digit}
-use Rattle.ascii.proofs.Front.{front-le}
-use Rattle.ascii.proofs.Reading.{digits-any, found-is, none-large}
+use Rattle.ascii.proofs.Front.{front_le}
+use Rattle.ascii.proofs.Reading.{digits_any, found_is, none_large}
 use Rattle.tform.proofs.parsing.repeat_count.Goals as goal
 
 pub slice_bounds-parse_number-end : goal.slice_bounds-parse_number-end
-slice_bounds-parse_number-end c = sym (length-take-le _ _ (omega (arith, c.requires, front-le digit c.args.text.now)))
+slice_bounds-parse_number-end c = sym (length-take-le _ _ (omega (arith, c.requires, front_le digit c.args.text.now)))
 
 pub returns-in-At : goal.returns-in-At
 returns-in-At c =
     let s = c.args.text.now in
-    let read = digits-any s c.args.digits c.if-digits-eq0.false c.requires in
-    let e = found-is (decimal 0 (take c.args.digits s)) _ (c.in-At.ensures ∙ read) in
+    let read = digits_any s c.args.digits c.if-digits-eq0.false c.requires in
+    let e = found_is (decimal 0 (take c.args.digits s)) _ (c.in-At.ensures ∙ read) in
     rw (ne_eqb _ _ c.if-digits-eq0.false) (omega (arith, c.capped.ensures, e))
 
 pub returns-in-Nothing : goal.returns-in-Nothing
 returns-in-Nothing c =
     let s = c.args.text.now in
-    let read = digits-any s c.args.digits c.if-digits-eq0.false c.requires in
-    let h = none-large (decimal 0 (take c.args.digits s)) (c.in-Nothing.ensures ∙ read) in
+    let read = digits_any s c.args.digits c.if-digits-eq0.false c.requires in
+    let h = none_large (decimal 0 (take c.args.digits s)) (c.in-Nothing.ensures ∙ read) in
     rw (ne_eqb _ _ c.if-digits-eq0.false) (omega (arith, h))
