@@ -3,7 +3,7 @@
 
 fn main(rt: HostRuntime) {
     let mut buffer = console::file_buffer();
-    let n = console::read_file(&rt, "table.fits", &mut buffer);
+    let n = console::read_file(&rt, b"table.fits", &mut buffer);
     let file = &buffer[..n];
     let start = output::cells_start(file);
     let layout = start.layout;

@@ -38,11 +38,16 @@ fn fill(file: &mut File, buffer: &mut [u8]) -> usize
     n
 }
 
-// The first bytes of a file, as many as the buffer takes, and how many they are. A missing file counts as an empty one.
-pub fn read_file(rt: &HostRuntime, name: &str, buffer: &mut [u8]) -> usize
-    ensures { result ≤ length buffer.new }
+// The first bytes of a file, as many as the buffer takes, and how many they are. A missing file counts as an empty one,
+// and so does one whose name is not UTF-8, since the standard library opens none.
+pub fn read_file(rt: &HostRuntime, name: &[u8], buffer: &mut [u8]) -> usize
+    ensures len { result ≤ length buffer.new }
+    ensures front { result ≡ length (take result buffer.new) }
 {
-    let Ok(mut file) = File::open(rt, name) else {
+    let Ok(path) = std::str::from_utf8(name) else {
+        return 0;
+    };
+    let Ok(mut file) = File::open(rt, path) else {
         return 0;
     };
     fill(&mut file, buffer)

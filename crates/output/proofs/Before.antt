@@ -3,7 +3,7 @@
 use Prim.Native.Nat.{ℕ, suc, ◌+◌, ◌≤◌, ◌<◌}
 use mathlib.Core.Path.{◌≡◌, refl, sym, ◌∙◌}
 use mathlib.Core.Bool.{true, false, cond}
-use mathlib.Core.List.{List, []}
+use mathlib.Core.List.{List, [], ◌∷◌}
 use native.Mathlib.Numerals.{add-one}
 use native.Mathlib.Omega.{arith}
 use lib.Dec.{ltb}
@@ -12,19 +12,25 @@ use borrow.Author.Tests.{ltb-true, ltb-false}
 use Rattle.ascii.proofs.Cases.{either}
 use Rattle.refusal.specs.Refusal as H
 use Rattle.layout.specs.declared.BinTable.{BinTable}
-use Rattle.refusal.specs.declared.Check.TheVariants.{Passed}
+use Rattle.refusal.specs.declared.Refusal.{Refusal}
+use Rattle.refusal.specs.declared.Check.{Check}
+use Rattle.refusal.specs.declared.Check.TheVariants.{Passed, Refused}
 use Rattle.refusal.specs.Refusal.{number_of, place_of, outcome_of}
 use Rattle.bintable.specs.Entry.{all_checks, entry, layout_in}
-use Rattle.walk.specs.Step.{open_with}
+use Rattle.walk.specs.declared.TableData.{TableData}
+use Rattle.walk.specs.declared.Opened.{Opened}
+use Rattle.walk.specs.Step.{open_with, opening_of}
+use Rattle.listing.specs.Lines.{refused_line}
 use Rattle.steps.specs.Split.{before, lines_of, line_at, line_feeds}
 use Rattle.steps.specs.Line.{Says, says, choose_all, choose, heap, cell, row, bad, command_of}
 use Rattle.steps.specs.Line as S
 use Rattle.steps.proofs.Lines.{lines_next, lines_none, feeds_next}
 use Rattle.output.specs.Cells.{header_of, data_of}
 use Rattle.output.specs.Replay as R
+use Rattle.output.specs.State.{steps_from}
 use Rattle.output.specs.declared.settings.Settings.{Settings}
 use Rattle.output.specs.declared.settings.Change.TheVariants as G
-use Rattle.output.specs.Settings.{settings_in, changed, Read, Reading}
+use Rattle.output.specs.Settings.{columns_in, settings_in, changed, Read, Reading}
 
 -- where no line is left its number does not matter
 none_by : (l : BinTable) (a : List ℕ) (st : R.Settings) (m n : ℕ) (x : H.Outcome)
@@ -103,6 +109,23 @@ module _ (s : List ℕ) (t : Settings) (r : Reading s t) where
   pub reading_end : length s ≤ t.at → Read s t
   unfolding R.setting_lines
   reading_end h l a = let z = rw (lines_none s t.at h) at (r l a) in rw (lines_none s t.at h) z
+
+-- ---- the opening
+
+module _ (l : BinTable) (a s : List ℕ) (t : Settings) where
+  -- the lines by what it returned
+  abbrev pub first_lines : Check → TableData → List (List ℕ)
+  first_lines Passed d = steps_from l a s t.at d
+  first_lines (Refused q) d = refused_line (number_of q) (place_of q) ∷ []
+
+  by_check : (x : Check) (d : TableData) → record { outcome = outcome_of x; cursor = d } ≡ open_with l a (columns_in s t.chosen) t.heap
+      → first_lines x d ≡ R.opened l a (settings_in s t) (line_feeds (take t.at s) + 1) (lines_of (drop t.at s))
+  by_check Passed d e = rw (← e)
+  by_check (Refused q) d e = rw (← e)
+
+  pub first_lines_lem : (o : Opened) → Read s t → opening_of o ≡ open_with l a (columns_in s t.chosen) t.heap
+      → first_lines o.check o.cursor ≡ R.setting_lines l a R.defaults 1 (lines_of s)
+  first_lines_lem o r e = by_check o.check o.cursor e ∙ r l a
 
 -- ---- the whole
 

@@ -6,7 +6,7 @@ use mathlib.Core.List.{List, [], ◌∷◌, ◌++◌}
 use native.Mathlib.Numerals.{add-one}
 use native.Mathlib.Omega.{arith}
 use lib.Dec.{eqb, leb, ltb}
-use lib.ListN.{length, take, drop, replicate, get_or, length-append, length-take}
+use lib.ListN.{length, take, drop, replicate, get_or, length-append, length-take, drop_of_length-le}
 use lib.Seq.{take-nil, get_or-take, drop-cons}
 use borrow.Author.Tests.{ltb-true, ltb-false}
 use Rattle.ascii.proofs.Cases.{either, by_test}
@@ -174,3 +174,15 @@ module _ (h : List ℕ) (l : BinTable) (a s : List ℕ) (at : ℕ) where
         let o = own_read l a c blank_cell n in
         let m : reply_of r.stepped.answer ≡ o.reply = ap (λ (x : Result). x.reply) e in
         rw (cells_next o.list (stored_by o.reply) k (rw m at b) (stored_inside c (own_list blank_cell n)), f)
+
+    -- after the last one
+    pub listed_over : stored_by (reply_of r.stepped.answer) ≤ k
+        → next_lines h l a s (N.Line (L.At r.stepped.cursor) (T.Step at r.stepped.cursor))
+        ≡ left h l a s (T.Listed at c n k)
+    listed_over b =
+        let o = own_read l a c blank_cell n in
+        let m : reply_of r.stepped.answer ≡ o.reply = ap (λ (x : Result). x.reply) e in
+        let d : r.stepped.cursor ≡ o.cursor = ap (λ (x : Result). x.cursor) e in
+        let cells = take (stored_by o.reply) o.list in
+        let over : length cells ≤ k = omega (arith, rw m at b, length-take (stored_by o.reply) o.list) in
+        rw (drop_of_length-le cells {i = k} over, d)

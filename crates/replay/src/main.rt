@@ -2,25 +2,26 @@
 // section 17).
 #![tactic(auto)]
 
-ghost use Rattle.std.specs.Prelude.{◌≤◌, length};
+ghost use Rattle.std.specs.Prelude.{◌≡◌, ◌≤◌, length, take};
 
 use refusal::Check;
 
 // The steps are read only if the table is accepted.
 fn read_steps(rt: &HostRuntime, file: &[u8], buffer: &mut [u8]) -> usize
-    ensures { result ≤ length buffer.new }
+    ensures len { result ≤ length buffer.new }
+    ensures front { result ≡ length (take result buffer.new) }
 {
     let parsed = output::parse_file(file);
     let check = parsed.check;
     if let Check::Refused(_) = check {
         return 0;
     }
-    console::read_file(rt, "steps.txt", buffer)
+    console::read_file(rt, b"steps.txt", buffer)
 }
 
 fn main(rt: HostRuntime) {
     let mut buffer = console::file_buffer();
-    let n = console::read_file(&rt, "table.fits", &mut buffer);
+    let n = console::read_file(&rt, b"table.fits", &mut buffer);
     let file = &buffer[..n];
     let mut text = console::file_buffer();
     let m = read_steps(&rt, file, &mut text);

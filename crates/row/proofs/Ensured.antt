@@ -38,6 +38,7 @@ use Rattle.row.specs.contracts.seek_to_row as lent_seek_to_row
 use Rattle.row.specs.contracts.owners.next as own_next
 use Rattle.row.specs.contracts.owners.seek_to_row as own_seek_to_row
 use Rattle.row.specs.contracts.owners.row_cell as own_row_cell
+use Rattle.row.specs.contracts.owners.next_row_cell as own_next_row_cell
 
 module _ {M : Type 1} {𝓤 : Ura M} (𝓛 : Logic 𝓤) (mem : Memory → SProp 𝓤) (run : Routine → Fun 𝓤) (κ κ' κ'' : Lft) (l : BinTable) (area : Bor (List ℕ)) where
   -- ---- the entry and opening
@@ -96,6 +97,11 @@ module _ {M : Type 1} {𝓤 : Ura M} (𝓛 : Logic 𝓤) (mem : Memory → SProp
           → (own_row_cell.clauses 𝓛 mem run (κ, tt) (l, (area, (cursor, (filler, (n, (k, tt))))))).ensures tt r (l, (area, (cursor, (filler, (n, (k, tt))))))
           ≡ sep 𝓤 (fact 𝓤 (RowEnsures l area.now cursor (own_list filler n) lists r.stepped)) (fact 𝓤 (r.cell ≡ get_or lists k filler))
       own_row_ensures r = refl
+
+      pub own_lent_row_ensures : (r : RowCell)
+          → (own_next_row_cell.clauses 𝓛 mem run (κ, tt) (l, (area, (cursor, (filler, (n, (k, tt))))))).ensures tt r (l, (area, (cursor, (filler, (n, (k, tt))))))
+          ≡ sep 𝓤 (fact 𝓤 (RowEnsures l area.now cursor (own_list filler n) lists r.stepped)) (fact 𝓤 (r.cell ≡ get_or lists k filler))
+      own_lent_row_ensures r = refl
 
   -- ---- the steps over a lent cursor
 

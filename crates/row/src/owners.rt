@@ -78,3 +78,19 @@ pub fn row_cell(
     };
     RowCell { stepped, cell }
 }
+
+// The same, under the name that a caller of landings 4 to 10 has it by.
+pub fn next_row_cell(
+    layout: BinTable,
+    area: &[u8],
+    cursor: TableData,
+    filler: Cell,
+    n: usize,
+    k: usize,
+) -> RowCell
+    ensures step { result_of result.stepped (own_read layout area.now cursor filler n).list
+        ≡ own_read layout area.now cursor filler n }
+    ensures cell { result.cell ≡ get_or (own_read layout area.now cursor filler n).list k filler }
+{
+    row_cell(layout, area, cursor, filler, n, k)
+}

@@ -39,8 +39,8 @@ module _ (l : BinTable) (a : List ℕ) (choice : ℕ) (heap : Bool) (r : ℕ) wh
 
   -- the first c columns take `at` bytes and have n entries
   pub record Summed (c at n : ℕ) : Type 0 where
-    pub bytes : at ≤ c * 134217728
-    pub some : n ≤ c * 17594467745792
+    pub bytes : at ≤ c * 134217744
+    pub some : n ≤ c * 17594467745808
     pub sums : columns_ok l.naxis1 0 (columns_of l) ≡ columns_ok l.naxis1 at (drop c (columns_of l))
     pub sizes : n + length (entries c) ≡ length (entries 0)
 
@@ -48,7 +48,7 @@ module _ (l : BinTable) (a : List ℕ) (choice : ℕ) (heap : Bool) (r : ℕ) wh
   summed_none = record { bytes = omega arith; some = omega arith; sums = refl; sizes = omega arith }
 
   -- column c comes next, with k entries
-  pub summed_next : length (columns_of l) ≡ l.tfields → (c at n k : ℕ) → c < l.tfields → Summed c at n → k ≤ 17594467745792
+  pub summed_next : length (columns_of l) ≡ l.tfields → (c at n k : ℕ) → c < l.tfields → Summed c at n → k ≤ 17594467745808
       → count_ok (column_of l c).form (column_of l c).count ≡ true → (column_of l c).start ≡ at → k ≡ size c
       → Summed (suc c) (at + column_bytes (column_of l c)) (n + k)
   summed_next full c at n k h w few count e sized =
@@ -100,7 +100,7 @@ module _ (l : BinTable) (a : List ℕ) (choice : ℕ) (heap : Bool) (r p : ℕ) 
 
   -- column c comes next, with k entries
   module _ (full : length (columns_of l) ≡ l.tfields) (c k : ℕ) (s : Scan) (h : c < l.tfields) (w : Scanned c s)
-      (few : k ≤ 17594467745792) (count : count_ok (column_of l c).form (column_of l c).count ≡ true) (at : (column_of l c).start ≡ s.at)
+      (few : k ≤ 17594467745808) (count : count_ok (column_of l c).form (column_of l c).count ≡ true) (at : (column_of l c).start ≡ s.at)
       (sized : k ≡ column_size l a choice heap r c) where
     abbrev t : Scan
     t = after s (column_of l c) c k
@@ -208,10 +208,10 @@ module _ (l : BinTable) (a : List ℕ) (choice row : ℕ) (y : Ready l a choice 
   ready_start = omega (arith, mul-le-mul_right l.naxis1 ready_row)
 
   -- the entries of a column
-  pub ready_few : (heap : Bool) (c : ℕ) → count_ok (column_of l c).form (column_of l c).count ≡ true → column_size l a choice heap row c ≤ 17594467745792
+  pub ready_few : (heap : Bool) (c : ℕ) → count_ok (column_of l c).form (column_of l c).count ≡ true → column_size l a choice heap row c ≤ 17594467745808
   unfolding field_of
   ready_few heap c e =
-      by_test (λ (k : ℕ). k ≤ 17594467745792) (chosen choice c)
+      by_test (λ (k : ℕ). k ≤ 17594467745808) (chosen choice c)
       (λ q. omega (arith, field_bound a (field_at l row c) (column_of l c) heap l.theap (data_size l), column_limit (column_of l c) e, ready_data)) (λ q. omega arith)
 
   pub ready_fits : columns_ok l.naxis1 0 (columns_of l) ≡ true → fits l a ≡ true

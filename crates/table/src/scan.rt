@@ -18,7 +18,7 @@ pub struct Scan {
 
 // The pass after column c, which has so many entries.
 pub fn after(scan: Scan, column: Column, c: usize, size: u64) -> Scan
-    requires { (count_ok column.form column.count ≡ true) × ((scan.at ≤ 8589934592) × (scan.size + size < 2 ^ 64)) }
+    requires { (count_ok column.form column.count ≡ true) × ((scan.at ≤ 8589935616) × (scan.size + size < 2 ^ 64)) }
     ensures { result ≡ after scan column c size }
 {
     let form = column.form;

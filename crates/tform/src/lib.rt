@@ -75,6 +75,13 @@ pub fn letter(ty: VariableArrayTy) -> u8
     }
 }
 
+// The bytes of one item, by its type.
+pub fn width(ty: VariableArrayTy) -> u64
+    ensures { result ≡ letter_width (letter ty) }
+{
+    item_width(letter(ty)) as u64
+}
+
 // The letter of a form.
 pub fn form_letter(form: TFormType) -> u8
     ensures { result ≡ form_letter form }
@@ -121,6 +128,13 @@ pub fn num_bytes_field(form: TFormType, count: u32) -> u64
 {
     let width = item_width(form_letter(form)) as u64;
     field_items(form, count) * width
+}
+
+// The same, under the name that a caller of landings 6 to 8 has it by.
+pub fn field_bytes(form: TFormType, count: u32) -> u64
+    ensures { result ≡ field_bytes form count }
+{
+    num_bytes_field(form, count)
 }
 
 // Whether a count is within its limit: a field of P or Q is one descriptor or none. A count that every form may have is

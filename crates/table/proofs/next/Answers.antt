@@ -79,7 +79,7 @@ after-scan-requires c =
     let s : c.column_size-size.result ≡ column_size l a u.choice u.heap u.row c.loop-c.c =
     rw (c.column_size-size.ensures, c.chosen-is_chosen.ensures)
     (sized_at l a u.choice u.heap u.row c.loop-c.c c.loop-c.scan.at (eqb-true _ _ q.1)) in
-    let few : c.column_size-size.result ≤ 17594467745792 = rw s (ready_few l a u.choice u.row y u.heap c.loop-c.c q.0) in (
+    let few : c.column_size-size.result ≤ 17594467745808 = rw s (ready_few l a u.choice u.row y u.heap c.loop-c.c q.0) in (
       q.0,
       (
         omega (arith, c.loop-c.invariant.1.summed.bytes, ready_columns l a u.choice u.row y),
@@ -97,7 +97,7 @@ loop-c-preserved c =
     let s : c.column_size-size.result ≡ column_size l a u.choice u.heap u.row c.loop-c.c =
     rw (c.column_size-size.ensures, c.chosen-is_chosen.ensures)
     (sized_at l a u.choice u.heap u.row c.loop-c.c c.loop-c.scan.at o) in
-    let few : c.column_size-size.result ≤ 17594467745792 = rw s (ready_few l a u.choice u.row y u.heap c.loop-c.c q.0) in (
+    let few : c.column_size-size.result ≤ 17594467745808 = rw s (ready_few l a u.choice u.row y u.heap c.loop-c.c q.0) in (
       omega arith,
       rw (add-one c.loop-c.c, c.after-scan.ensures)
           (scanned_next l a u.choice u.heap u.row u.passed n c.loop-c.c _ c.loop-c.scan c.loop-c-test.true c.loop-c.invariant.1 few q.0 o s),

@@ -73,7 +73,7 @@ loop-c-preserved c =
     let f : length l.columns ≡ 64 = omega arith in
     let o = ordered l r.choice k c.loop-c.at _ c.chosen-is_chosen.ensures c.if-not-plain_in_order.ensures in
     let z = sized l a r.choice r.heap r.row k c.loop-c.at _ c.item_cells-cells.result c.chosen-is_chosen.ensures c.item_cells-cells.ensures o in
-    let few : c.item_cells-cells.result ≤ 17594467745792 = rw z (ready_few l a r.choice r.row y r.heap k o.count) in
+    let few : c.item_cells-cells.result ≤ 17594467745808 = rw z (ready_few l a r.choice r.row y r.heap k o.count) in
     record {
       within = omega arith;
       summed = rw (add-one k, c.num_bytes_field-at.ensures)
