@@ -31,7 +31,7 @@ from header_cases import end_of, ended, keyword, name_of, padded, record, record
 AREA = 65536
 
 # the cases by name stay below this, so that the repository stays small; the program reads any length
-MOST_NAMED = 600000
+MOST_NAMED = 700000
 
 # ---- what docs/FORMAT.md says of a table's header ----
 
@@ -503,7 +503,7 @@ def every_item(count):
 
 
 def every(count):
-    """All the letters with these digits, which mean 1 or 0: 24 bytes more for P and Q, or none."""
+    """All the letters with these digits; where they mean 1 or 0, 24 bytes more for P and Q, or none."""
     return every_item(count) + [count + 'PE', count + 'QD']
 
 
@@ -591,6 +591,31 @@ def empty_field_cases():
              table(['2QD', '3Z', '1E'], 36) + [keyword('TTYPE1', '1')], area=36),
         case('8: `2PE` last behind `0PE`, before 9', 'refused 8 3', table(['1E', '0PE', '2PE'], 5), area=5),
     ]
+
+
+def counted_form_cases():
+    """Forms of P and Q with counts, in the bytes that one descriptor each would take whatever its count: at 0 the row
+    has fewer, and above 1 the form is bad."""
+    rests = ['E', '1E and more', '1J1J', "2I''", '1EZ', '3A/', '8X-', '1B ', 'PE(20)', '1QD(5)', '2PX (', '0PM', '0QC',
+             '9PAA']
+    bits = ['0X', '1X', '7X', '8X', '9X', '15X', '16X', '17X', '64X', '65X']
+    made = [
+        case('9: every letter without digits and with 0', 'refused 9 0', table(every('') + every('0'), 78 + 24),
+             area=102),
+        case('8: every letter with 1 and 7', 'refused 8 25', table(every('1') + every('7'), 78 + 396), area=474),
+        case('8: every letter with 8 and 9', 'refused 8 12', table(every('8') + every('9'), 449 + 503), area=952),
+        case('8: every letter with 12, and with 5 in 30 digits', 'refused 8 12',
+             table(every('12') + every('5'.zfill(30)), 662 + 290), area=952),
+        case('8: what comes after a form; bits in bytes', 'refused 8 11', table(rests + bits, 89 + 29), area=118),
+        case('8, not 9: every letter with the largest count', 'refused 8 12',
+             table(every('8388608'), 1048576, rows=0), area=0),
+    ]
+    for k, form in ((11, '8388609PE'), (12, '8388609QD')):
+        forms = every('1')
+        forms[k] = form
+        made.append(case('8: one above the largest count of items, %s' % form, 'refused 8 %d' % (k + 1),
+                         table(forms, 78), area=78))
+    return made
 
 
 # TTYPE2 is record 21, its string starts at byte 1,691; each next one 80 further
@@ -730,7 +755,7 @@ def named():
     """All of them."""
     return (example_cases() + whole_cases() + missing_cases() + unread_cases() + wrong_cases() + heap_cases()
             + sum_cases() + order_cases() + form_cases() + empty_field_cases() + name_cases() + apart_cases()
-            + either_case_cases())
+            + either_case_cases() + counted_form_cases())
 
 
 # ---- random cases ----

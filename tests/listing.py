@@ -726,6 +726,10 @@ def above_one_cases():
         both('9: `0PE` alone, NAXIS1 8', ended(table(['0PE'], 8)) + bytes(8), b'cell\n', 'refused 9 0\n'),
         both('9: `0QD` between others, NAXIS1 with 16 bytes more', ended(table(['1I', '0QD', '1J'], 22)) + bytes(22),
              b'heap off\n', 'refused 9 0\n'),
+        both('8: counts of forms, with rests, of no rows',
+             ended(table(['PE(20)', '0PI', '8388608QI', '12X', '007I', 'E', '0M', '0X', '1Azz'], 53, rows=0)
+                   + [keyword('TTYPE%d' % n, quoted(name)) for n, name in enumerate('abcdefghi', 1)]), b'',
+             'refused 8 3\n'),
     ]
     for form, bytes_of_one in (('2PE', 8), ('2QD', 16), ('8388608PE', 8), ('002PX(9)', 8), ('2P', 8), ('0P', 0),
                                ('0PZ', 0)):

@@ -15,9 +15,8 @@ the layout are read by layout_cases.py, which is such a reader too.
 A case is a header, a data area, a second area (often empty), a choice of columns, a heap setting, and steps. The entry
 gets the header and the first area. The opening and each step say which of the areas they are lent, and how many bytes
 of it at most. A step may also give the cursor any place and count, or any columns. A row read says how long its list
-is; the list is full of one cell that no table has, and is shown after the step. A cell read or seek is done by value or
-over a lent cursor: which of the two is left to chance, and the reader below knows no difference. A row read is done over
-a lent one.
+is; the list is full of one cell that no table has, and is shown after the step. A read or seek is done by value or over
+a lent cursor: which of the two is left to chance, and the reader below knows no difference.
 """
 import collections
 import os
@@ -983,10 +982,22 @@ def empty_field_cases():
     ]
 
 
+def counted_form_cases():
+    """`0PI`, `3PI`, `8388608QI` in the bytes of one descriptor each: the second is a bad form."""
+    forms, written = ['PI', '00001PI(9)', 'QI'], ['0PI', '3PI', '8388608QI']
+    row, heap = [p(1, 0) + p(1, 2) + q(2, 4)], be(1, 2, 1, 4, 3, 6, 5, 8, 7)
+    return [
+        case('`0PI`, `3PI`, `8388608QI`: the entry\'s 8', '', forms, row, reads(5), heap=heap, written=written),
+        case('`0PI`, `3PI`, `8388608QI`, the heap off: the entry\'s 8', '', forms, row, reads(4), heap=heap,
+             written=written, follow=False),
+    ]
+
+
 def named():
     """All of them."""
     return (value_cases() + heap_cases() + end_cases() + row_cases() + choice_cases() + seek_cases() + area_cases()
-            + place_cases() + row_read_cases() + row_heap_cases() + row_place_cases() + empty_field_cases())
+            + place_cases() + row_read_cases() + row_heap_cases() + row_place_cases() + empty_field_cases()
+            + counted_form_cases())
 
 
 # ---- random cases ----

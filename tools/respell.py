@@ -6,8 +6,9 @@ usage: tools/respell.py [FOLDER]
 
 FOLDER, the repository's top if it is not given, is rewritten in place: specs/, proofs/ and src/ of each crate, the edits
 of must-fail/ and tests/edits, and the code spans of *.md. A name is one that a file of specs/ or proofs/ declares, so
-functions of src/, what Rattle makes and what the library declares stay. A second run writes nothing more. A line that
-begins 'meets:' names a file in which a new spelling stood already for something else: it is for a person to look at.
+functions of src/, what Rattle makes and what the library declares stay. A second run changes no crate. docs/PORT.md,
+which lists old names, stays; another page that quotes one on purpose is put right by hand. A line that begins 'meets:'
+names a file in which a new spelling stood already for something else: it is for a person to look at.
 """
 
 import os
@@ -154,6 +155,8 @@ def main():
     changed = 0
     for ending, turn in kinds:
         for path in files(top, ending):
+            if path.endswith("PORT.md"):
+                continue
             before = read(path)
             own = of_file(os.path.relpath(path, top), table, set(table.values()) | names)
             after = turn(before, own)

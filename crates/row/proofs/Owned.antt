@@ -4,7 +4,7 @@
 --     made, front, back, lent, left  the whole, what is lent, the rest, and that the first two parts of the whole are these
 --     long, whole, inside          the length of what is lent and of the whole afterwards, and that the place is inside
 --     looked                       what is read there
---     own-step, own-cell           what a row read of the list that is lent came to, and what is read of the whole afterwards
+--     own_step, own_cell           what a row read of the list that is lent came to, and what is read of the whole afterwards
 -- Assumes nothing.
 use mathlib.Core.Path.{◌≡◌, refl, ap, subst, ◌∙◌}
 use Prim.Native.Nat.{ℕ, zero, suc, ◌-◌, ◌≤◌, ◌<◌, min}

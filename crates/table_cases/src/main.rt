@@ -36,6 +36,10 @@ fn other() -> Cell {
 }
 
 fn step_by_value(layout: BinTable, area: &[u8], cursor: TableData, step: &[u8]) -> Stepped {
+    if file::kind(step) == 4 {
+        let read = row::owners::row_cell(layout, area, cursor, other(), file::list_len(step), 0);
+        return read.stepped;
+    }
     if file::kind(step) == 1 {
         return table::seek_to_row(layout, area, cursor, file::row(step));
     }
@@ -43,18 +47,18 @@ fn step_by_value(layout: BinTable, area: &[u8], cursor: TableData, step: &[u8]) 
 }
 
 fn step_lent(layout: BinTable, area: &[u8], cursor: TableData, step: &[u8]) -> Stepped {
+    if file::kind(step) == 4 {
+        let n = file::list_len(step);
+        let read = row::owners::next_row_cell(layout, area, cursor, other(), n, 0);
+        return read.stepped;
+    }
     if file::kind(step) == 1 {
         return row::owners::seek_to_row(layout, area, cursor, file::row(step));
     }
     row::owners::next(layout, area, cursor)
 }
 
-// A row read is lent its cursor in either case: the read by value is what it calls.
 fn step_once(layout: BinTable, area: &[u8], cursor: TableData, step: &[u8]) -> Stepped {
-    if file::kind(step) == 4 {
-        let read = row::owners::row_cell(layout, area, cursor, other(), file::list_len(step), 0);
-        return read.stepped;
-    }
     if file::over_lent(step) {
         return step_lent(layout, area, cursor, step);
     }
@@ -64,6 +68,10 @@ fn step_once(layout: BinTable, area: &[u8], cursor: TableData, step: &[u8]) -> S
 // Cell k of the list after a row read. The read is done anew for each, from the cursor as it was before.
 fn listed(layout: BinTable, area: &[u8], cursor: TableData, step: &[u8], k: usize) -> Cell {
     let n = file::list_len(step);
+    if file::over_lent(step) {
+        let read = row::owners::next_row_cell(layout, area, cursor, other(), n, k);
+        return read.cell;
+    }
     let read = row::owners::row_cell(layout, area, cursor, other(), n, k);
     read.cell
 }
