@@ -1,5 +1,6 @@
 -- Texts that are put one after another, each at the place after the one before, and how long they are.
 -- Assumes nothing.
+use Rattle.std.specs.Prelude.{Option, Some, None}
 use Prim.Native.Nat.{ℕ, ◌+◌, ◌-◌, ◌≤◌, ◌<◌}
 use mathlib.Core.Path.{◌≡◌, refl, sym, ap, subst, ◌∙◌}
 use mathlib.Core.List.{List, [], ◌∷◌, ◌++◌, append_assoc}
@@ -7,8 +8,6 @@ use native.Mathlib.Nat.{add-zero}
 use native.Mathlib.Omega.{arith}
 use lib.ListN.{length, take, length-append, length-replicate, take-append-drop}
 use borrow.Author.Tests.{le-leb, lt-leb}
-use Rattle.ascii.specs.declared.Written.{Written}
-use Rattle.ascii.specs.declared.Written.TheVariants.{To, NoRoom}
 use Rattle.ascii.specs.Buffer.{put_in, written, written_to, place_after}
 use Rattle.ascii.specs.Number.{decimal_text, right_aligned}
 use Rattle.ascii.proofs.Lengths.{decimal_length, put_put, take_put}
@@ -18,7 +17,7 @@ abbrev pub Put : List ℕ → ℕ → List ℕ → ℕ → List ℕ → Type 0
 Put o at t p o' = (p ≡ at + length t) × (o' ≡ put_in o at t)
 
 -- and where there may be none
-abbrev pub Shown : List ℕ → ℕ → List ℕ → Written → List ℕ → Type 0
+abbrev pub Shown : List ℕ → ℕ → List ℕ → Option ℕ → List ℕ → Type 0
 Shown o at t w o' = (w ≡ written_to o at t) × (o' ≡ written o at t)
 
 -- what a writer ensures that gives a place in both cases
@@ -41,15 +40,15 @@ module _ (o : List ℕ) (at : ℕ) {s t : List ℕ} (e : s ≡ t) where
   pub tried_as : {p : ℕ} {o' : List ℕ} → Tried o at s p o' → Tried o at t p o'
   tried_as {p} {o'} h = subst (λ (l : List ℕ). Tried o at l p o') e h
 
-  pub shown : {w : Written} {o' : List ℕ} → Shown o at s w o' → Shown o at t w o'
+  pub shown : {w : Option ℕ} {o' : List ℕ} → Shown o at s w o' → Shown o at t w o'
   shown {w} {o'} h = subst (λ (l : List ℕ). Shown o at l w o') e h
 
 module _ (o : List ℕ) (at : ℕ) (t : List ℕ) where
-  pub room : {p : ℕ} {o' : List ℕ} → at + length t ≤ length o → Put o at t p o' → Shown o at t (To p) o'
+  pub room : {p : ℕ} {o' : List ℕ} → at + length t ≤ length o → Put o at t p o' → Shown o at t (Some p) o'
   unfolding written written_to
-  room {p} {o'} h (e, f) = rw (le-leb (at + length t) (length o) h) (ap To e, f)
+  room {p} {o'} h (e, f) = rw (le-leb (at + length t) (length o) h) (ap Some e, f)
 
-  pub no_room : length o < at + length t → Shown o at t NoRoom o
+  pub no_room : length o < at + length t → Shown o at t None o
   unfolding written written_to
   no_room h = rw (lt-leb (at + length t) (length o) h) (refl, refl)
 

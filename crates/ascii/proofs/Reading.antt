@@ -1,5 +1,6 @@
 -- A number read digit by digit, and the number that some digits at the front of a text are.
 -- Assumes nothing.
+use Rattle.std.specs.Prelude.{Option, Some, None}
 use mathlib.Core.Path.{◌≡◌, refl, ap}
 use mathlib.Core.List.{List, [], ◌∷◌}
 use mathlib.Core.Bool.{Bool, ◌&&◌, cond, and-false}
@@ -15,21 +16,19 @@ use Rattle.ascii.specs.Text.{front, digit, decimal}
 use Rattle.ascii.proofs.Cases.{either}
 use Rattle.ascii.proofs.Front.{front_le, front_passes}
 use Rattle.ascii.proofs.Decimal.{decimal_next, ten_next, ten_le, digit_range}
-use Rattle.ascii.specs.declared.Found.{Found}
-use Rattle.ascii.specs.declared.Found.TheVariants.{At, Nothing}
 use Rattle.ascii.specs.Number.{number}
 
 -- a number with one digit more, where it is still below 2 ^ 64
-abbrev pub digit_after : ℕ → ℕ → Found
-digit_after n b = cond (digit b && ltb (n * 10 + (b - 48)) (2 ^ 64)) (At (n * 10 + (b - 48))) Nothing
+abbrev pub digit_after : ℕ → ℕ → Option ℕ
+digit_after n b = cond (digit b && ltb (n * 10 + (b - 48)) (2 ^ 64)) (Some (n * 10 + (b - 48))) None
 
-abbrev onward : (ℕ → Found) → Found → Found
-onward f (At n) = f n
-onward f Nothing = Nothing
+abbrev onward : (ℕ → Option ℕ) → Option ℕ → Option ℕ
+onward f (Some n) = f n
+onward f None = None
 
 -- the number n with some digits more, taken one by one
-unfoldable pub number_from : ℕ → List ℕ → Found
-number_from n [] = At n
+unfoldable pub number_from : ℕ → List ℕ → Option ℕ
+number_from n [] = Some n
 number_from n (b ∷ bs) = onward (λ (m : ℕ). number_from m bs) (digit_after n b)
 
 -- a number only grows by its digits
@@ -38,7 +37,7 @@ unfolding decimal
 decimal_grows n [] = omega arith
 decimal_grows n (b ∷ bs) = omega (arith, decimal_grows (n * 10 + (b - 48)) bs)
 
-from_is : (n : ℕ) (s : List ℕ) → n < 2 ^ 64 → number_from n s ≡ cond (eqb (front digit s) (length s) && ltb (decimal n s) (2 ^ 64)) (At (decimal n s)) Nothing
+from_is : (n : ℕ) (s : List ℕ) → n < 2 ^ 64 → number_from n s ≡ cond (eqb (front digit s) (length s) && ltb (decimal n s) (2 ^ 64)) (Some (decimal n s)) None
 unfolding number_from front decimal
 from_is n [] h = rw (lt-ltb n (2 ^ 64) h)
 from_is n (b ∷ bs) h =
@@ -49,7 +48,7 @@ from_is n (b ∷ bs) h =
     (λ t. rw (d, t, le-ltb (decimal m bs) (2 ^ 64) (omega (arith, decimal_grows m bs, ltb-false m (2 ^ 64) t)), and-false (eqb (suc (front digit bs)) (suc (length bs))))))
     (λ d. rw (d, eqb-zero-suc (length bs)))
 
-pub number_none : (s : List ℕ) → length s ≡ 0 → number s ≡ Nothing
+pub number_none : (s : List ℕ) → length s ≡ 0 → number s ≡ None
 unfolding number
 number_none s e = rw e
 
@@ -59,15 +58,15 @@ number_is s h = rw (lt-ltb 0 (length s) (omega arith)) (from_is 0 s (omega arith
 
 -- at a place of the text
 module _ (n : ℕ) (s : List ℕ) (i : ℕ) where
-  pub from_next : (m : ℕ) → i < length s → digit_after n (get_or s i 0) ≡ At m → number_from n (drop i s) ≡ number_from m (drop (i + 1) s)
+  pub from_next : (m : ℕ) → i < length s → digit_after n (get_or s i 0) ≡ Some m → number_from n (drop i s) ≡ number_from m (drop (i + 1) s)
   unfolding number_from
   from_next m h e = rw (add-one i, drop-cons s i 0 h, e)
 
-  pub from_stop : i < length s → digit_after n (get_or s i 0) ≡ Nothing → number_from n (drop i s) ≡ Nothing
+  pub from_stop : i < length s → digit_after n (get_or s i 0) ≡ None → number_from n (drop i s) ≡ None
   unfolding number_from
   from_stop h e = rw (drop-cons s i 0 h, e)
 
-  pub from_end : length s ≤ i → number_from n (drop i s) ≡ At n
+  pub from_end : length s ≤ i → number_from n (drop i s) ≡ Some n
   unfolding number_from
   from_end h = rw (drop_of_length-le s h)
 
@@ -93,27 +92,27 @@ decimal_below s (suc n) h =
 
 -- they are a number, where it is below 2 ^ 64
 pub digits_any : (s : List ℕ) (n : ℕ) → (n ≡ 0 → ⊥) → n ≤ front digit s
-    → number (take n s) ≡ cond (ltb (decimal 0 (take n s)) (2 ^ 64)) (At (decimal 0 (take n s))) Nothing
+    → number (take n s) ≡ cond (ltb (decimal 0 (take n s)) (2 ^ 64)) (Some (decimal 0 (take n s))) None
 unfolding number
 digits_any s n some h =
     let l : length (take n s) ≡ n = length-take-le n s (omega (arith, front_le digit s)) in
     rw (l, front_take digit s n h, lt-ltb 0 n (omega arith), eq-eqb n n refl)
 
 -- so 18 of them are
-pub digits_number : (s : List ℕ) (n : ℕ) → (n ≡ 0 → ⊥) → n ≤ 18 → n ≤ front digit s → number (take n s) ≡ At (decimal 0 (take n s))
+pub digits_number : (s : List ℕ) (n : ℕ) → (n ≡ 0 → ⊥) → n ≤ 18 → n ≤ front digit s → number (take n s) ≡ Some (decimal 0 (take n s))
 digits_number s n some few h =
     let d : decimal 0 (take n s) < 2 ^ 64 = omega (arith, decimal_below s n h, ten_le 18 few) in
     rw (lt-ltb (decimal 0 (take n s)) (2 ^ 64) d) at (digits_any s n some h)
 
 -- what was found of a number that may be too large
-pub found_is : (d v : ℕ) → At v ≡ cond (ltb d (2 ^ 64)) (At d) Nothing → v ≡ d
+pub found_is : (d v : ℕ) → Some v ≡ cond (ltb d (2 ^ 64)) (Some d) None → v ≡ d
 found_is d v e =
     either (ltb d (2 ^ 64))
-    (λ t. let z : At v ≡ At d = rw t at e in cc)
-    (λ t. let y : At v ≡ Nothing = rw t at e in let z : ◌≡◌ {A = ℕ} 0 1 = cc in absurd (omega arith))
+    (λ t. let z : Some v ≡ Some d = rw t at e in cc)
+    (λ t. let y : Some v ≡ None = rw t at e in let z : ◌≡◌ {A = ℕ} 0 1 = cc in absurd (omega arith))
 
-pub none_large : (d : ℕ) → Nothing ≡ cond (ltb d (2 ^ 64)) (At d) Nothing → 2 ^ 64 ≤ d
+pub none_large : (d : ℕ) → None ≡ cond (ltb d (2 ^ 64)) (Some d) None → 2 ^ 64 ≤ d
 none_large d e =
     either (ltb d (2 ^ 64))
-    (λ t. let y : Nothing ≡ At d = rw t at e in let z : ◌≡◌ {A = ℕ} 0 1 = cc in absurd (omega arith))
+    (λ t. let y : None ≡ Some d = rw t at e in let z : ◌≡◌ {A = ℕ} 0 1 = cc in absurd (omega arith))
     (λ t. ltb-false d (2 ^ 64) t)

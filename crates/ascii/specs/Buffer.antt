@@ -1,8 +1,6 @@
 -- A text in a lent buffer.
 -- Assumes nothing.
-use Rattle.std.specs.Prelude.{ℕ, ◌+◌, cond, List, ◌++◌, length, take, drop, leb}
-use Rattle.ascii.specs.declared.Written.{Written}
-use Rattle.ascii.specs.declared.Written.TheVariants.{To, NoRoom}
+use Rattle.std.specs.Prelude.{ℕ, ◌+◌, cond, List, ◌++◌, length, take, drop, leb, Option, Some, None}
 
 -- the buffer with a text from place `at` on, the rest of it as it was
 unfoldable pub put_in : List ℕ → ℕ → List ℕ → List ℕ
@@ -13,8 +11,8 @@ unfoldable pub written : List ℕ → ℕ → List ℕ → List ℕ
 written out at text = cond (leb (at + length text) (length out)) (put_in out at text) out
 
 -- the place after the text, where there is room for it
-unfoldable pub written_to : List ℕ → ℕ → List ℕ → Written
-written_to out at text = cond (leb (at + length text) (length out)) (To (at + length text)) NoRoom
+unfoldable pub written_to : List ℕ → ℕ → List ℕ → Option ℕ
+written_to out at text = cond (leb (at + length text) (length out)) (Some (at + length text)) None
 
 -- the same place as a number: without room the place where the text would begin
 unfoldable pub place_after : List ℕ → ℕ → List ℕ → ℕ

@@ -1,13 +1,11 @@
 -- Numbers as text: a number that a text is, and the text of a number (FORMAT.md, sections 16 and 17).
 -- Assumes nothing.
-use Rattle.std.specs.Prelude.{ℕ, zero, suc, ◌+◌, ◌-◌, ◌/◌, ◌%◌, ◌^◌, ◌&&◌, cond, List, [], ◌∷◌, ◌++◌, length, replicate, eqb, ltb}
-use Rattle.ascii.specs.declared.Found.{Found}
-use Rattle.ascii.specs.declared.Found.TheVariants.{At, Nothing}
+use Rattle.std.specs.Prelude.{ℕ, zero, suc, ◌+◌, ◌-◌, ◌/◌, ◌%◌, ◌^◌, ◌&&◌, cond, List, [], ◌∷◌, ◌++◌, length, replicate, eqb, ltb, Option, Some, None}
 use Rattle.ascii.specs.Text.{front, digit, decimal}
 
 -- a number: one digit or more and nothing else, and below 2^64. Zeros may stand in front
-unfoldable pub number : List ℕ → Found
-number s = cond (ltb 0 (length s) && (eqb (front digit s) (length s) && ltb (decimal 0 s) (2 ^ 64))) (At (decimal 0 s)) Nothing
+unfoldable pub number : List ℕ → Option ℕ
+number s = cond (ltb 0 (length s) && (eqb (front digit s) (length s) && ltb (decimal 0 s) (2 ^ 64))) (Some (decimal 0 s)) None
 
 -- the decimal digits of n, the highest first and no zero in front, for a number of k digits at most
 unfoldable pub decimal_in : ℕ → ℕ → List ℕ

@@ -3,8 +3,6 @@ ghost use Rattle.std.specs.Prelude.{◌≡◌, ◌+◌, ◌-◌, ◌≤◌, leb,
 ghost use Rattle.ascii.specs.Number.{right_aligned};
 ghost use Rattle.ascii.specs.Buffer.{put_in, written, written_to, place_after};
 
-use super::Written;
-
 // Whether n bytes from a place on end within a buffer. The tests have no sum, which could wrap.
 fn has_room(len: usize, at: usize, n: usize) -> bool
     ensures { result ≡ leb (at + n) len }
@@ -53,14 +51,14 @@ pub fn put(out: &mut [u8], at: usize, text: &[u8]) -> usize
 }
 
 // The same, and tells whether there was room.
-pub fn put_text(out: &mut [u8], at: usize, text: &[u8]) -> Written
+pub fn put_text(out: &mut [u8], at: usize, text: &[u8]) -> Option<usize>
     ensures to { result ≡ written_to out.old at text.now }
     ensures buffer { out.new ≡ written out.old at text.now }
 {
     if has_room(out.len(), at, text.len()) {
-        return Written::To(copy(out, at, text));
+        return Some(copy(out, at, text));
     }
-    Written::NoRoom
+    None
 }
 
 // How many spaces stand before a text of n bytes in a field of this width.

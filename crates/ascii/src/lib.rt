@@ -8,20 +8,6 @@ pub mod digits;
 ghost use Rattle.std.specs.Prelude.{◌≡◌, length, take};
 ghost use Rattle.ascii.specs.Text.{front, space, digit, spaces, trim, same};
 
-// A place or a number, or none.
-#[derive(Clone, Copy)]
-pub enum Found {
-    At(usize),
-    Nothing,
-}
-
-// The place after what was written, or that there was no room for it.
-#[derive(Clone, Copy)]
-pub enum Written {
-    To(usize),
-    NoRoom,
-}
-
 // How many spaces stand at the front.
 pub fn leading_spaces(s: &[u8]) -> usize
     ensures { result ≡ front space s.now }

@@ -1,5 +1,6 @@
 -- The tests of a value, and the first refusal of several checks.
 -- Assumes nothing.
+use Rattle.std.specs.Prelude.{Option}
 use mathlib.Core.Path.{◌≡◌, refl, sym, ◌∙◌, ap}
 use mathlib.Core.Bool.{true, false}
 use mathlib.Core.List.{List, [], ◌∷◌, ◌++◌}
@@ -10,7 +11,7 @@ use Rattle.card.specs.declared.Value.{Value}
 use Rattle.refusal.specs.Refusal.{Outcome, accepted, refused, before}
 use Rattle.bintable.specs.Checks.{not_negative, size_in, within, first_refusal}
 
-module _ (low high : ℕ) (v : Value) where
+module _ (low high : ℕ) (v : Option Value) where
   pub within_negative : not_negative v ≡ false → false ≡ within low high v
   within_negative e = rw e
 

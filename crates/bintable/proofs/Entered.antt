@@ -1,6 +1,6 @@
 -- The layout of a header that passes the nine checks, and the entry in parts.
 -- Assumes nothing.
-use mathlib.Core.Path.{◌≡◌, refl, sym, ◌∙◌, subst}
+use mathlib.Core.Path.{◌≡◌, refl, sym, ◌∙◌, ap, subst}
 use mathlib.Core.Bool.{cond}
 use mathlib.Core.List.{List, ◌++◌}
 use Prim.Native.Nat.{ℕ, ◌-◌, ◌*◌, ◌^◌, ◌≤◌, ◌<◌}
@@ -15,7 +15,8 @@ use Rattle.header.proofs.Lengths.{length_small}
 use Rattle.header.proofs.Lookup.{accepted_length}
 use Rattle.layout.specs.Layout.{no_column, row_bytes, columns_of}
 use Rattle.bintable.specs.Checks.{is_integer, within, record_for, size_for, first_refusal}
-use Rattle.bintable.specs.Entry.{nine, nine_checks, column_checks, layout_of, check9, check10, header_checks, all_checks}
+use Rattle.bintable.specs.Entry.{nine, nine_checks, column_checks, layout_of, check9, check10, header_checks, all_checks, entry_by, entry}
+use Rattle.bintable.specs.Entry as E
 use Rattle.bintable.proofs.Bounds.{value_limit, size_limits, main_limit, both_accepted, first_accepted}
 use Rattle.bintable.proofs.Nine.{kinds, sizes, rest, nine_parts}
 use Rattle.bintable.proofs.Filled.{columns_to, columns_length}
@@ -71,3 +72,26 @@ module _ (h : List ℕ) where
   pub entry_parts : (a : List ℕ) → all_checks h a ≡ before (before (checked h) (nine_checks h)) (before (before (column_checks h (size_for h "TFIELDS")) (check9 (layout_of h))) (check10 (layout_of h) a))
   unfolding all_checks header_checks first_refusal
   entry_parts a = regroup (checked h) (nine_checks h) (column_checks h (size_for h "TFIELDS")) (check9 (layout_of h)) (check10 (layout_of h) a)
+
+  -- the entry of a header whose nine names pass, by what its columns and its rows come to
+  module _ (a : List ℕ) (whole : checked h ≡ accepted) (names : nine_checks h ≡ accepted) where
+    by_columns : (o : Outcome) → o ≡ before (column_checks h (size_for h "TFIELDS")) (check9 (layout_of h)) → all_checks h a ≡ before o (check10 (layout_of h) a)
+    by_columns o e = rw (entry_parts a, whole, names, ← e)
+
+    pub columns_refused : (n p : ℕ) → refused n p ≡ before (column_checks h (size_for h "TFIELDS")) (check9 (layout_of h)) → E.refused n p ≡ entry h a
+    columns_refused n p e = ap (λ (o : Outcome). entry_by o (layout_of h)) (sym (by_columns (refused n p) e))
+
+    pub by_area : (o : Outcome) → accepted ≡ before (column_checks h (size_for h "TFIELDS")) (check9 (layout_of h)) → o ≡ check10 (layout_of h) a
+        → entry_by o (layout_of h) ≡ entry h a
+    by_area o e f = ap (λ (q : Outcome). entry_by q (layout_of h)) (f ∙ sym (by_columns accepted e))
+
+  -- the entry where the whole header is refused, or one of the nine names
+  pub header_refused : (a : List ℕ) (n p : ℕ) → refused n p ≡ checked h → E.refused n p ≡ entry h a
+  header_refused a n p e =
+      let q : all_checks h a ≡ refused n p = rw (entry_parts a, ← e) in
+      ap (λ (o : Outcome). entry_by o (layout_of h)) (sym q)
+
+  pub names_refused : (a : List ℕ) (n p : ℕ) → checked h ≡ accepted → refused n p ≡ nine_checks h → E.refused n p ≡ entry h a
+  names_refused a n p c e =
+      let q : all_checks h a ≡ refused n p = rw (entry_parts a, c, ← e) in
+      ap (λ (o : Outcome). entry_by o (layout_of h)) (sym q)

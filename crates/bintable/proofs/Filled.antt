@@ -1,5 +1,6 @@
 -- The columns of a header, one more at the end; their counts, bytes and names are bounded.
 -- Assumes nothing.
+use Rattle.std.specs.Prelude.{Option, Some, None}
 use mathlib.Core.Path.{◌≡◌, refl, sym, ◌∙◌, ap}
 use mathlib.Core.Bool.{true}
 use mathlib.Core.List.{List, [], ◌∷◌, ◌++◌, map, append_assoc}
@@ -11,10 +12,8 @@ use lib.ListN.{length, replicate, set}
 use lib.Seq.{set_at}
 use Rattle.card.specs.declared.Value.TheVariants.{String}
 use Rattle.card.proofs.Inside.{value_inside}
-use Rattle.ascii.specs.declared.Found.{Found}
-use Rattle.ascii.specs.declared.Found.TheVariants.{At, Nothing}
 use Rattle.keyword.specs.Names.{range}
-use Rattle.refusal.specs.Refusal.{accepted, before}
+use Rattle.refusal.specs.Refusal.{Outcome, accepted, refused, before}
 use Rattle.tform.specs.declared.TForm.{TForm}
 use Rattle.tform.specs.Width.{count_ok}
 use Rattle.tform.specs.Form.{form_of}
@@ -25,13 +24,12 @@ use Rattle.layout.specs.Layout.{no_column, column_bytes, row_bytes}
 use Rattle.bintable.specs.Checks.{text_in, value_at, tform_of, first_refusal}
 use Rattle.bintable.specs.Entry.{column_check, column_checks, type_in, count_in, column_at, columns_from}
 use Rattle.bintable.proofs.Checked.{first_snoc}
-use Rattle.tform.specs.declared.TForm.TheVariants as T
 
 -- ---- a form's count
 
-ok_in : (f : TForm) → CountOk f → count_ok (type_in f) (count_in f) ≡ true
-ok_in (T.Valid f n) e = e
-ok_in T.Invalid e = refl
+ok_in : (f : Option TForm) → CountOk f → count_ok (type_in f) (count_in f) ≡ true
+ok_in (Some f) e = e
+ok_in None e = refl
 
 pub form_count : (s : List ℕ) → count_ok (type_in (form_of s)) (count_in (form_of s)) ≡ true
 form_count s = ok_in (form_of s) (form_ok s)
@@ -58,6 +56,18 @@ checks_next h k =
     sym (ap first_refusal (ap (λ (m : ℕ). map (column_check h) (range 1 m)) (add-one k) ∙ ap (map (column_check h)) (range_snoc 1 k) ∙ map_snoc (column_check h) (range 1 k) (1 + k))
     ∙ first_snoc (map (column_check h) (range 1 k)) (column_check h (1 + k))
     ∙ ap (λ (m : ℕ). before (first_refusal (map (column_check h) (range 1 k))) (column_check h m)) (omega arith))
+
+-- once a column is refused, so are all the more columns
+checks_stay : (h : List ℕ) (n p k d : ℕ) → column_checks h k ≡ refused n p → column_checks h (k + d) ≡ refused n p
+checks_stay h n p k zero e = rw (add-zero k) e
+checks_stay h n p k (suc d) e =
+    ap (column_checks h) (omega arith) ∙ sym (checks_next h (k + d)) ∙ ap (λ (o : Outcome). before o (column_check h (k + d + 1))) (checks_stay h n p k d e)
+
+pub checks_stop : (h : List ℕ) (k m n p : ℕ) → column_checks h k ≡ accepted → column_check h (k + 1) ≡ refused n p → k < m → column_checks h m ≡ refused n p
+checks_stop h k m n p a e l =
+    let s : column_checks h (k + 1) ≡ refused n p = sym (checks_next h k) ∙ ap (λ (o : Outcome). before o (column_check h (k + 1))) a ∙ e in
+    let q : k + 1 + (m - (k + 1)) ≡ m = omega arith in
+    ap (column_checks h) (sym q) ∙ checks_stay h n p (k + 1) (m - (k + 1)) s
 
 row_snoc : (xs : List Column) (c : Column) → row_bytes (xs ++ (c ∷ [])) ≡ row_bytes xs + column_bytes c
 unfolding row_bytes
@@ -131,6 +141,6 @@ module _ (h : List ℕ) where
   bytes_bound k = from_bound 0 1 k
 
   -- a stretch of the header fits 32 bits
-  pub value_fits : (r : Found) → length h < 2 ^ 32 → (a n : ℕ) → value_at h r ≡ String a n → (a < 2 ^ 32) × (n < 2 ^ 32)
-  value_fits (At k) l a n e = let i = value_inside a n h k e in (omega (arith, i), omega (arith, i))
-  value_fits Nothing l a n e = absurd (let z : ◌≡◌ {A = ℕ} 0 1 = cc in omega arith)
+  pub value_fits : (r : Option ℕ) → length h < 2 ^ 32 → (a n : ℕ) → value_at h r ≡ Some (String a n) → (a < 2 ^ 32) × (n < 2 ^ 32)
+  value_fits (Some k) l a n e = let i = value_inside a n h k e in (omega (arith, i), omega (arith, i))
+  value_fits None l a n e = absurd (let z : ◌≡◌ {A = ℕ} 0 1 = cc in omega arith)

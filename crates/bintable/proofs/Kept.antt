@@ -1,5 +1,6 @@
 -- The layout that the entry returns keeps every limit and sum, its data area is long enough, and the header alone decides it.
 -- Assumes nothing.
+use Rattle.std.specs.Prelude.{Option, Some, None, Result, Ok}
 use mathlib.Core.Path.{◌≡◌, refl, sym, ◌∙◌, ap}
 use mathlib.Core.Bool.{Bool, true, false, cond}
 use mathlib.Core.List.{List}
@@ -9,14 +10,11 @@ use lib.Dec.{eqb, leb}
 use lib.ListN.{length}
 use borrow.Author.Tests.{eq-eqb, le-leb, leb-true}
 use Rattle.ascii.proofs.Cases.{both}
-use Rattle.ascii.specs.declared.Found.{Found}
-use Rattle.ascii.specs.declared.Found.TheVariants.{At, Nothing}
+use Rattle.refusal.specs.declared.Refusal.{Refusal}
 use Rattle.refusal.specs.Refusal.{Outcome, before, outcome_of}
 use Rattle.header.specs.Checks.{checked}
 use Rattle.layout.specs.declared.Column.{Column}
 use Rattle.layout.specs.declared.BinTable.{BinTable}
-use Rattle.refusal.specs.declared.Check.{Check}
-use Rattle.refusal.specs.declared.Check.TheVariants.{Passed}
 use Rattle.layout.specs.Layout.{column_bytes, row_bytes, columns_of, main_size, data_size, columns_ok, layout_ok}
 use Rattle.bintable.specs.Checks.{not_negative, size_in, within, text_in, value_at, record_for, size_for, tform_of}
 use Rattle.bintable.specs.Entry.{main_of, theap_check, theap_in, nine, nine_checks, column_checks, columns_from, layout_of, check9, check10, all_checks, accepted, entry_by, entry, layout_in}
@@ -42,15 +40,15 @@ module _ (h : List ℕ) where
       ∙ ap (λ (b : ℕ). eqb b end) (omega arith))
 
   -- THEAP's range
-  range : (r : Found) (main pcount : ℕ) → theap_check h r main pcount ≡ O.accepted
+  range : (r : Option ℕ) (main pcount : ℕ) → theap_check h r main pcount ≡ O.accepted
       → (main ≤ theap_in main (value_at h r) r) × (theap_in main (value_at h r) r ≤ main + pcount)
   unfolding theap_check
-  range (At k) main pcount e =
-      let v = value_at h (At k) in let a = first_accepted _ _ e in
+  range (Some k) main pcount e =
+      let v = value_at h (Some k) in let a = first_accepted _ _ e in
       let t = unless_holds 6 (within main (main + pcount) v) k (first_accepted _ _ a.1).0 in
       let u = both (leb main (size_in v)) (leb (size_in v) (main + pcount)) (both (not_negative v) _ t).1 in
       (leb-true main (size_in v) u.0, leb-true (size_in v) (main + pcount) u.1)
-  range Nothing main pcount e = (omega arith, omega arith)
+  range None main pcount e = (omega arith, omega arith)
 
   theap_range : nine_checks h ≡ O.accepted → (main_size (layout_of h) ≤ (layout_of h).theap) × ((layout_of h).theap ≤ data_size (layout_of h))
   unfolding layout_of nine
@@ -102,7 +100,7 @@ module _ (h : List ℕ) where
     entry_long e = let p = parts e in rw p.1.1 (leb-true (data_size (layout_of h)) (length a) (passes (leb (data_size (layout_of h)) (length a)) 10 0 p.1.0))
 
 -- where the code's entry passed, the entry accepts the layout that it returned: from the two clauses of its contract
-pub parsed_entry : (h a : List ℕ) (check : Check) (l : BinTable) → outcome_of check ≡ all_checks h a → l ≡ layout_in (entry h a) → check ≡ Passed
+pub parsed_entry : (h a : List ℕ) (check : Result Unit Refusal) (l : BinTable) → outcome_of check ≡ all_checks h a → l ≡ layout_in (entry h a) → check ≡ (Ok tt)
     → entry h a ≡ accepted l
 parsed_entry h a check l e q p =
     let o : all_checks h a ≡ O.accepted = sym e ∙ ap outcome_of p in

@@ -1,6 +1,7 @@
 -- The name of a column in the header that its layout was made from is the text of TTYPEn: that header is never too short
 -- for it. By a name that is alike to it the column is found, or one in front of it.
 -- Assumes nothing.
+use Rattle.std.specs.Prelude.{Option, Some, None}
 use mathlib.Core.Path.{◌≡◌, refl, sym, ◌∙◌, ap, subst}
 use mathlib.Core.Bool.{true, ◌&&◌}
 use mathlib.Core.List.{List}
@@ -10,13 +11,10 @@ use native.Mathlib.Omega.{arith}
 use lib.ListN.{length, get_or, replicate, get_or-append}
 use borrow.Author.Tests.{le-leb}
 use Rattle.card.specs.declared.Value.{Value}
-use Rattle.card.specs.declared.Value.TheVariants.{Integer, String, Invalid}
+use Rattle.card.specs.declared.Value.TheVariants.{Integer, String}
 use Rattle.card.proofs.Inside.{value_inside}
-use Rattle.ascii.specs.declared.Found.{Found}
-use Rattle.ascii.specs.declared.Found.TheVariants.{At, Nothing}
 use Rattle.layout.specs.Layout.{no_column, column_bytes, columns_of}
 use Rattle.layout.specs.declared.Name.{Name}
-use Rattle.layout.specs.declared.Name.TheVariants.{Stretch}
 use Rattle.layout.specs.declared.Column.{Column}
 use Rattle.layout.specs.Names.{in_header, stretch_of, part_of, column_name, same_name, find_name}
 use Rattle.layout.proofs.Named.{name_at, column_at}
@@ -26,16 +24,16 @@ use Rattle.bintable.specs.Entry.{name_in, columns_from, layout_of}
 use Rattle.bintable.proofs.Filled.{column_of, columns_to, columns_length}
 
 module _ (h : List ℕ) where
-  part_text : (v : Value) → ((a n : ℕ) → v ≡ String a n → a + n ≤ length h) → part_of h (name_in v) ≡ text_in h v
+  part_text : (v : Option Value) → ((a n : ℕ) → v ≡ Some (String a n) → a + n ≤ length h) → part_of h (name_in v) ≡ text_in h v
   unfolding part_of
-  part_text (Integer z) i = refl
-  part_text (String a n) i = rw (le-leb (a + n) (length h) (i a n refl))
-  part_text Invalid i = refl
+  part_text (Some (Integer z)) i = refl
+  part_text (Some (String a n)) i = rw (le-leb (a + n) (length h) (i a n refl))
+  part_text None i = refl
 
-  record_text : (r : Found) → part_of h (name_in (value_at h r)) ≡ text_in h (value_at h r)
+  record_text : (r : Option ℕ) → part_of h (name_in (value_at h r)) ≡ text_in h (value_at h r)
   unfolding part_of
-  record_text (At k) = part_text (value_at h (At k)) (λ a n e. value_inside a n h k e)
-  record_text Nothing = refl
+  record_text (Some k) = part_text (value_at h (Some k)) (λ a n e. value_inside a n h k e)
+  record_text None = refl
 
   column_name_lem : (at n k c : ℕ) → c < k → (get_or (columns_from h at n k) c no_column).name ≡ name_in (value_at h (ttype_of h (n + c)))
   unfolding columns_from
@@ -55,19 +53,19 @@ module _ (h : List ℕ) where
   pub own_name : (c : ℕ) → c < (layout_of h).tfields → column_name h (layout_of h) c ≡ text_in h (value_at h (ttype_of h (c + 1)))
   own_name c p = sym (name_at h (layout_of h) c p) ∙ ap (part_of h) (listed c p) ∙ record_text (ttype_of h (c + 1))
 
-  reached : (r : Found) (a n : ℕ) → value_at h r ≡ String a n → a + n ≤ length h
-  reached (At k) a n e = value_inside a n h k e
-  reached Nothing a n e = absurd (let w : ◌≡◌ {A = ℕ} 0 1 = cc in omega arith)
+  reached : (r : Option ℕ) (a n : ℕ) → value_at h r ≡ Some (String a n) → a + n ≤ length h
+  reached (Some k) a n e = value_inside a n h k e
+  reached None a n e = absurd (let w : ◌≡◌ {A = ℕ} 0 1 = cc in omega arith)
 
   -- the TTYPEn of column c is the string of n bytes from byte a on
-  module _ (c a n : ℕ) (p : c < (layout_of h).tfields) (v : value_at h (ttype_of h (c + 1)) ≡ String a n) where
-    own_stretch : (get_or (columns_of (layout_of h)) c no_column).name ≡ Stretch a n
+  module _ (c a n : ℕ) (p : c < (layout_of h).tfields) (v : value_at h (ttype_of h (c + 1)) ≡ Some (String a n)) where
+    own_stretch : (get_or (columns_of (layout_of h)) c no_column).name ≡ Some (record { start = a; len = n })
     own_stretch = ap (λ (x : Column). x.name) (column_at (layout_of h) c p) ∙ listed c p ∙ ap name_in v
 
     -- if that is alike to the name sought, its column is found or one in front of it is
-    pub own_found : (s : List ℕ) → same_name (text_in h (String a n)) s ≡ true
-        → (d : ℕ) × (find_name h (layout_of h) s ≡ At d) × (d ≤ c)
+    pub own_found : (s : List ℕ) → same_name (text_in h (Some (String a n))) s ≡ true
+        → (d : ℕ) × (find_name h (layout_of h) s ≡ Some d) × (d ≤ c)
     own_found s e =
         let i = le-leb (a + n) (length h) (reached (ttype_of h (c + 1)) a n v) in
-        let has = subst (λ (m : Name). (in_header h m && same_name (stretch_of h m) s) ≡ true) (sym own_stretch) (rw i e) in
+        let has = subst (λ (m : Option Name). (in_header h m && same_name (stretch_of h m) s) ≡ true) (sym own_stretch) (rw i e) in
         let q = found_upto h (layout_of h) s c has in (q.0, q.1, q.2)

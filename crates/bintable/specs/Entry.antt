@@ -1,23 +1,20 @@
 -- The entry (FORMAT.md, sections 7 to 10; the standard, 7.3.1, 7.3.2 and 7.3.5): for a header and a data area, the layout or one refusal.
 -- Assumes nothing.
-use Rattle.std.specs.Prelude.{ℕ, zero, suc, ◌+◌, ◌-◌, ◌*◌, List, [], ◌∷◌, ◌++◌, map, Bool, cond, length, replicate, eqb, leb}
+use Rattle.std.specs.Prelude.{ℕ, zero, suc, ◌+◌, ◌-◌, ◌*◌, List, [], ◌∷◌, ◌++◌, map, Bool, cond, length, replicate, eqb, leb, Option, Some, None, Result, Ok, Err}
 use Rattle.card.specs.declared.Value.{Value}
-use Rattle.card.specs.declared.Value.TheVariants.{Integer, String, Invalid}
+use Rattle.card.specs.declared.Value.TheVariants.{Integer, String}
 use Rattle.ascii.specs.Text.{bytes, same}
-use Rattle.ascii.specs.declared.Found.{Found}
-use Rattle.ascii.specs.declared.Found.TheVariants.{At, Nothing}
 use Rattle.keyword.specs.Names.{range, index_limit}
-use Rattle.refusal.specs.Refusal.{Outcome, before}
+use Rattle.refusal.specs.declared.Refusal.{Refusal}
+use Rattle.refusal.specs.Refusal.{Outcome, before, number_of, place_of}
 use Rattle.header.specs.Checks.{checked}
 use Rattle.refusal.specs.Refusal as O
 use Rattle.tform.specs.declared.VariableArrayTy.TheVariants.{L}
 use Rattle.tform.specs.declared.TFormType.{TFormType}
 use Rattle.tform.specs.declared.TFormType.TheVariants.{Items}
 use Rattle.tform.specs.declared.TForm.{TForm}
-use Rattle.tform.specs.declared.TForm.TheVariants as T
 use Rattle.tform.specs.Form.{form_of}
 use Rattle.layout.specs.declared.Name.{Name}
-use Rattle.layout.specs.declared.Name.TheVariants.{Missing, Stretch}
 use Rattle.layout.specs.declared.Column.{Column}
 use Rattle.layout.specs.declared.BinTable.{BinTable}
 use Rattle.layout.specs.Layout.{naxis1_limit, naxis2_limit, pcount_limit, tfields_limit, no_column, empty_layout, column_bytes, row_bytes, columns_of, data_size}
@@ -26,16 +23,16 @@ use Rattle.bintable.specs.Checks.{is_integer, is_string, not_negative, size_in, 
 -- ---- the nine names
 
 -- a name that must be there, by 4, 5 and 6: it has a value of this kind, and one that is right
-unfoldable pub required : List ℕ → Found → (Value → Bool) → (Value → Bool) → Outcome
+unfoldable pub required : List ℕ → Option ℕ → (Option Value → Bool) → (Option Value → Bool) → Outcome
 required h r kind right = first_refusal (check4 0 r ∷ check5 (kind (value_at h r)) r ∷ check6 (right (value_at h r)) r ∷ [])
 
 -- the same, and by 7
-unfoldable pub limited : List ℕ → Found → (Value → Bool) → (Value → Bool) → ℕ → Outcome
+unfoldable pub limited : List ℕ → Option ℕ → (Option Value → Bool) → (Option Value → Bool) → ℕ → Outcome
 limited h r kind right limit =
     first_refusal (check4 0 r ∷ check5 (kind (value_at h r)) r ∷ check6 (right (value_at h r)) r ∷ check7 limit (value_at h r) r ∷ [])
 
 -- THEAP may be missing; else it lies from the main size to the main size and PCOUNT
-unfoldable pub theap_check : List ℕ → Found → ℕ → ℕ → Outcome
+unfoldable pub theap_check : List ℕ → Option ℕ → ℕ → ℕ → Outcome
 theap_check h r main pcount = first_refusal (check5 (is_integer (value_at h r)) r ∷ check6 (within main (main + pcount) (value_at h r)) r ∷ [])
 
 -- the main size
@@ -45,7 +42,7 @@ main_of h = size_for h "NAXIS1" * size_for h "NAXIS2"
 -- the nine, in their order
 unfoldable pub nine : List ℕ → List Outcome
 nine h =
-    required h (record_for h "XTENSION") is_string (λ (v : Value). same (text_in h v) (bytes "BINTABLE"))
+    required h (record_for h "XTENSION") is_string (λ (v : Option Value). same (text_in h v) (bytes "BINTABLE"))
     ∷ required h (record_for h "BITPIX") is_integer (within 8 8)
     ∷ required h (record_for h "NAXIS") is_integer (within 2 2)
     ∷ limited h (record_for h "NAXIS1") is_integer not_negative naxis1_limit
@@ -62,7 +59,7 @@ nine_checks h = first_refusal (nine h)
 -- ---- the columns
 
 -- the form of column n
-abbrev pub form_for : List ℕ → ℕ → TForm
+abbrev pub form_for : List ℕ → ℕ → Option TForm
 form_for h n = form_of (text_in h (value_at h (tform_of h n)))
 
 -- TFORMn by 4, 5 and 8, then TTYPEn, which may be missing, by 5
@@ -76,19 +73,19 @@ unfoldable pub column_checks : List ℕ → ℕ → Outcome
 column_checks h many = first_refusal (map (column_check h) (range 1 many))
 
 -- the type and the count of a form; a bad one has none
-abbrev pub type_in : TForm → TFormType
-type_in (T.Valid f k) = f
-type_in T.Invalid = Items L
+abbrev pub type_in : Option TForm → TFormType
+type_in (Some f) = f.form
+type_in None = Items L
 
-abbrev pub count_in : TForm → ℕ
-count_in (T.Valid f k) = k
-count_in T.Invalid = 0
+abbrev pub count_in : Option TForm → ℕ
+count_in (Some f) = f.count
+count_in None = 0
 
 -- the name that a value of TTYPEn is, as a stretch of the header; a missing one differs from an empty one
-abbrev pub name_in : Value → Name
-name_in (Integer z) = Missing
-name_in (String a n) = Stretch a n
-name_in Invalid = Missing
+abbrev pub name_in : Option Value → Option Name
+name_in (Some (Integer z)) = None
+name_in (Some (String a n)) = Some (record { start = a; len = n })
+name_in None = None
 
 -- column n, which starts at byte `at` of a row
 abbrev pub column_at : List ℕ → ℕ → ℕ → Column
@@ -102,9 +99,9 @@ columns_from h at n (suc many) = let c = column_at h n at in c ∷ columns_from 
 -- ---- the layout, which the header alone decides
 
 -- where the heap starts: at the main size if THEAP is missing
-abbrev pub theap_in : ℕ → Value → Found → ℕ
-theap_in main v (At k) = size_in v
-theap_in main v Nothing = main
+abbrev pub theap_in : ℕ → Option Value → Option ℕ → ℕ
+theap_in main v (Some k) = size_in v
+theap_in main v None = main
 
 unfoldable pub layout_of : List ℕ → BinTable
 layout_of h =
@@ -148,7 +145,12 @@ entry_by (O.refused number place) l = refused number place
 abbrev pub entry : List ℕ → List ℕ → Entry
 entry h a = entry_by (all_checks h a) (layout_of h)
 
--- the layout that is returned: beside each refusal the empty one
+-- what the code's entry returned
+abbrev pub entry_of : Result BinTable Refusal → Entry
+entry_of (Ok l) = accepted l
+entry_of (Err r) = refused (number_of r) (place_of r)
+
+-- the layout of an entry, and for a refusal the empty one
 abbrev pub layout_in : Entry → BinTable
 layout_in (accepted l) = l
 layout_in (refused number place) = empty_layout

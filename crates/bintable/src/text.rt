@@ -19,10 +19,10 @@ pub fn stretch(header: &[u8], start: usize, len: usize) -> &[u8]
 }
 
 // The bytes of a string.
-pub fn text_of(header: &[u8], value: Value) -> &[u8]
+pub fn text_of(header: &[u8], value: Option<Value>) -> &[u8]
     ensures { result.now ≡ text_in header.now value }
 {
-    let Value::String { start, len } = value else {
+    let Some(Value::String { start, len }) = value else {
         return &header[0..0];
     };
     stretch(header, start, len)

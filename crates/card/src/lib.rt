@@ -12,12 +12,11 @@ ghost use Rattle.card.specs.Record.{card_at, is_end, has_value, name_of};
 ghost use Rattle.card.specs.Value.{value_of};
 
 // What a record's value field says. A string is the stretch of the header between its quotes, with
-// trailing spaces off and doubled quotes still doubled. `Invalid` is an unreadable value.
+// trailing spaces off and doubled quotes still doubled. An unreadable value is none.
 #[derive(Clone, Copy)]
 pub enum Value {
     Integer(i64),
     String { start: usize, len: usize },
-    Invalid,
 }
 
 // The 80 bytes of a record, or none past the last whole record.
@@ -62,15 +61,15 @@ pub fn name(header: &[u8], number: usize) -> &[u8]
 }
 
 // The record's value.
-pub fn parse_value(header: &[u8], number: usize) -> Value
+pub fn parse_value(header: &[u8], number: usize) -> Option<Value>
     ensures { result ≡ value_of header.now number }
 {
     let card = card_buf(header, number);
     if card.len() < 80 {
-        return Value::Invalid;
+        return None;
     }
     if !text::value_indicator(card) {
-        return Value::Invalid;
+        return None;
     }
     let start = number * 80 + 10;
     field::field_value(&card[10..], start)

@@ -1,20 +1,20 @@
 -- What a cell read says of the reads from a cursor on, and the turns of a loop of cell reads: one law for both calls.
 -- Assumes nothing.
+use Rattle.std.specs.Prelude.{Option, Some, None, Result, Ok, Err}
 use Prim.Native.Nat.{ℕ, ◌<◌}
 use mathlib.Core.Path.{◌≡◌, refl, sym, ap, subst}
 use mathlib.Core.List.{List, [], ◌∷◌}
 use native.Mathlib.Omega.{arith}
 use lib.ListN.{length}
 use Rattle.ascii.proofs.Cases.{either}
+use Rattle.refusal.specs.declared.Refusal.{Refusal}
 use Rattle.layout.specs.declared.BinTable.{BinTable}
 use Rattle.cell.specs.declared.Cell.{Cell}
 use Rattle.walk.specs.declared.TableData.{TableData}
 use Rattle.walk.specs.declared.Entry.{Entry}
-use Rattle.walk.specs.declared.Answer.{Answer}
-use Rattle.walk.specs.declared.Answer.TheVariants as A
 use Rattle.walk.specs.declared.Stepped.{Stepped}
 use Rattle.walk.specs.Walk.{read_cell, Reply, got_cell, got_row, sought, at_end, refused}
-use Rattle.walk.specs.Step.{Result, belongs, cursor_left, cursor_step, reply_of, result_of}
+use Rattle.walk.specs.Step.{StepResult, belongs, cursor_left, cursor_step, cell_reply, cell_result}
 use Rattle.walk.proofs.InOrder.{ReadLeft, read_left}
 use Rattle.exports.specs.Checksum.{add_cell, add_cells, with_number}
 use Rattle.exports.specs.Reads.{Reading, ended, and_then, cell_reads}
@@ -29,16 +29,14 @@ CellsLeft l a o at_end d = o ≡ ended 0
 CellsLeft l a o (refused m p) d = o ≡ ended m
 
 -- an answer that is no cell
-abbrev NoCell : Answer → Type 0
-NoCell r = (x : Cell) → r ≡ A.Cell x → ⊥
+abbrev NoCell : Result (Option Cell) Refusal → Type 0
+NoCell r = (x : Cell) → r ≡ Ok (Some x) → ⊥
 
-none_left : (l : BinTable) (a : List ℕ) (o : Reading) (r : Answer) (d : TableData) → NoCell r
-    → CellsLeft l a o (reply_of r) d → o ≡ ended (number_in r)
-none_left l a o (A.Cell x) d k h = absurd (k x refl)
-none_left l a o (A.Row n) d k h = h
-none_left l a o A.Sought d k h = h
-none_left l a o A.End d k h = h
-none_left l a o (A.Refused q) d k h = h
+none_left : (l : BinTable) (a : List ℕ) (o : Reading) (r : Result (Option Cell) Refusal) (d : TableData) → NoCell r
+    → CellsLeft l a o (cell_reply r) d → o ≡ ended (number_in r)
+none_left l a o (Ok (Some x)) d k h = absurd (k x refl)
+none_left l a o (Ok None) d k h = h
+none_left l a o (Err q) d k h = h
 
 module _ (l : BinTable) (a : List ℕ) (c : TableData) where
   by_reply : (es : List Entry) (q : Reply) (d : TableData) → ReadLeft l a c es q d
@@ -61,21 +59,21 @@ module _ (l : BinTable) (a : List ℕ) (c : TableData) where
       (λ b. rw b)
 
 -- a turn of the loop: what the read returned, the sum so far, and what is returned in the end
-module _ (l : BinTable) (a : List ℕ) (c : TableData) (r : Stepped)
-    (read : result_of r [] ≡ cursor_step l a c read_cell) where
-  left : CellsLeft l a (cells_from l a c) (reply_of r.answer) r.cursor
-  left = subst (λ (o : Result). CellsLeft l a (cells_from l a c) o.reply o.cursor) (sym read) (left_is l a c)
+module _ (l : BinTable) (a : List ℕ) (c : TableData) (r : Stepped (Option Cell))
+    (read : cell_result r.cursor r.answer ≡ cursor_step l a c read_cell) where
+  left : CellsLeft l a (cells_from l a c) (cell_reply r.answer) r.cursor
+  left = subst (λ (o : StepResult). CellsLeft l a (cells_from l a c) o.reply o.cursor) (sym read) (left_is l a c)
 
-  more : (x : Cell) → r.answer ≡ A.Cell x → cells_from l a c ≡ and_then (x ∷ []) (cells_from l a r.cursor)
+  more : (x : Cell) → r.answer ≡ Ok (Some x) → cells_from l a c ≡ and_then (x ∷ []) (cells_from l a r.cursor)
   more x e = rw e at left
 
   -- of a cell
-  pub cell_added : (s t : ℕ) (x : Cell) → r.answer ≡ A.Cell x → sum_then s (cells_from l a c) ≡ t
+  pub cell_added : (s t : ℕ) (x : Cell) → r.answer ≡ Ok (Some x) → sum_then s (cells_from l a c) ≡ t
       → sum_then (add_cell s x) (cells_from l a r.cursor) ≡ t
   unfolding add_cells
   cell_added s t x e same = subst (λ (o : Reading). sum_then s o ≡ t) (more x e) same
 
-  pub cell_fewer : (x : Cell) → r.answer ≡ A.Cell x
+  pub cell_fewer : (x : Cell) → r.answer ≡ Ok (Some x)
       → length (cells_from l a r.cursor).cells < length (cells_from l a c).cells
   cell_fewer x e = omega (arith, ap (λ (o : Reading). length o.cells) (more x e))
 

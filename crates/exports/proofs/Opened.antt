@@ -1,7 +1,7 @@
 -- What the entry and opening say of a layout's sum and of the reads from there on.
 -- Assumes nothing.
 use Prim.Native.Nat.{ℕ, ◌≤◌, ◌-◌}
-use mathlib.Core.Path.{◌≡◌, refl, ap, ◌∙◌}
+use mathlib.Core.Path.{◌≡◌, refl, sym, ap, ◌∙◌}
 use mathlib.Core.Bool.{Bool, true}
 use mathlib.Core.List.{List}
 use native.Mathlib.Omega.{arith}
@@ -9,8 +9,7 @@ use Rattle.ascii.proofs.Cases.{either}
 use Rattle.refusal.specs.Refusal as H
 use Rattle.layout.specs.declared.BinTable.{BinTable}
 use Rattle.refusal.specs.declared.Refusal.{Refusal}
-use Rattle.refusal.specs.declared.Check.TheVariants.{Passed, Refused}
-use Rattle.refusal.specs.Refusal.{number_of, outcome_of}
+use Rattle.refusal.specs.Refusal.{number_of, place_of}
 use Rattle.bintable.specs.Entry as B
 use Rattle.bintable.proofs.Kept.{entry_ok}
 use Rattle.walk.specs.declared.TableData.{TableData}
@@ -27,14 +26,9 @@ use Rattle.exports.specs.Loops.{cells_from, rows_from}
 
 -- ---- the layout
 
-module _ (h a : List ℕ) where
-  -- it has no more columns than there is room for
-  pub few_columns : (B.layout_in (B.entry h a)).tfields ≤ 64
-  few_columns = go (B.entry h a) refl
-    where
-      go : (e : B.Entry) → B.entry h a ≡ e → (B.layout_in e).tfields ≤ 64
-      go (B.accepted l) q = (limits l (entry_ok h a l q)).columns
-      go (B.refused n p) q = omega arith
+-- it has no more columns than there is room for
+pub few_columns : (h a : List ℕ) (l : BinTable) → B.accepted l ≡ B.entry h a → l.tfields ≤ 64
+few_columns h a l e = (limits l (entry_ok h a l (sym e))).columns
 
 -- ---- the cursor
 
@@ -86,18 +80,20 @@ module _ (way : Way) (from : BinTable → List ℕ → TableData → Reading) (r
   entered (H.refused n p) k = refl
 
   -- of what `open_table` returns, by its contract
-  module _ (h : List ℕ) (s : Start)
-      (check : outcome_of s.check ≡ H.before (B.all_checks h a) (open_with s.layout a (listed cols) heap).outcome)
-      (layout : s.layout ≡ B.layout_in (B.entry h a))
-      (cursor : s.cursor ≡ (open_with s.layout a (listed cols) heap).cursor) where
-    table_reads_lem : read_by (outcome_of s.check) s.layout s.cursor ≡ table_reads way h a cols heap
-    table_reads_lem = rw (check, cursor, layout) (entered (B.all_checks h a) (B.layout_of h))
+  module _ (h : List ℕ) where
+    abbrev layout : BinTable
+    layout = B.layout_in (B.entry h a)
 
-    pub sum_refused : (r : Refusal) → s.check ≡ Refused r
+    table_reads_lem : (o : H.Outcome) → o ≡ H.before (B.all_checks h a) (open_with layout a (listed cols) heap).outcome
+        → read_by o layout (open_with layout a (listed cols) heap).cursor ≡ table_reads way h a cols heap
+    table_reads_lem o e = rw e (entered (B.all_checks h a) (B.layout_of h))
+
+    pub sum_refused : (r : Refusal) → H.refused (number_of r) (place_of r) ≡ H.before (B.all_checks h a) (open_with layout a (listed cols) heap).outcome
         → with_number (number_of r) 0 ≡ reads_sum (table_reads way h a cols heap)
     unfolding add_cells
-    sum_refused r t = ap reads_sum (rw t at table_reads_lem)
+    sum_refused r e = ap reads_sum (table_reads_lem (H.refused (number_of r) (place_of r)) e)
 
-    pub sum_passed : s.check ≡ Passed
+    pub sum_passed : (s : Start) → H.accepted ≡ H.before (B.all_checks h a) (open_with layout a (listed cols) heap).outcome
+        → (s.layout ≡ layout) × (s.cursor ≡ (open_with s.layout a (listed cols) heap).cursor)
         → reads_sum (from s.layout a s.cursor) ≡ reads_sum (table_reads way h a cols heap)
-    sum_passed t = ap reads_sum (rw t at table_reads_lem)
+    sum_passed s e f = ap reads_sum (rw (f.1, f.0) (table_reads_lem H.accepted e))

@@ -1,5 +1,6 @@
 -- What a row read says of row reads from a cursor on.
 -- Assumes nothing.
+use Rattle.std.specs.Prelude.{Option, Some, None, Result, Ok, Err}
 use Prim.Native.Nat.{ℕ, suc, ◌-◌, ◌≤◌, ◌<◌}
 use mathlib.Core.Path.{◌≡◌, refl, ap, sym, subst, ◌∙◌}
 use mathlib.Core.Bool.{true, false, cond, ◌&&◌, false≢true, true≢false}
@@ -10,6 +11,7 @@ use lib.ListN.{length, take, drop, length-append}
 use lib.Seq.{take-append_seam}
 use borrow.Author.Tests.{ltb-true, ltb-false}
 use Rattle.ascii.proofs.Cases.{either, both}
+use Rattle.refusal.specs.declared.Refusal.{Refusal}
 use Rattle.layout.specs.declared.BinTable.{BinTable}
 use Rattle.cell.specs.declared.Cell.{Cell}
 use Rattle.walk.specs.declared.TableData.{TableData}
@@ -17,12 +19,11 @@ use Rattle.walk.specs.declared.Entry.{Entry}
 use Rattle.walk.specs.declared.Stepped.{Stepped}
 use Rattle.walk.specs.Plain.{row_entries}
 use Rattle.walk.specs.Walk.{read_row, Reply, got_cell, got_row, sought, at_end, refused, State, placed, grown, place_ok, Gathered, all_cells, outside, row_outcome, rest, walk_step}
-use Rattle.walk.specs.Step.{fits, choice_ok, belongs, state_of, cursor_at, Result, with_cursor, cursor_step, result_of}
+use Rattle.walk.specs.Step.{fits, choice_ok, belongs, state_of, cursor_at, StepResult, with_cursor, cursor_step, row_reply, row_result}
 use Rattle.walk.proofs.Follows.{ok_start}
-use Rattle.exports.specs.declared.rows.RowSum.{RowSum}
-use Rattle.exports.specs.Checksum.{with_number}
+use Rattle.exports.specs.Checksum.{add_cells, with_number}
 use Rattle.exports.specs.Reads.{Reading, ended, and_then, row_then, row_reads}
-use Rattle.exports.specs.Loops.{rows_from, sum_then, number_by, stored_by, row_by, stored_cells, row_sum_at}
+use Rattle.exports.specs.Loops.{rows_from, sum_then, number_by, stored_by, row_by, number_in}
 use Rattle.exports.proofs.Sums.{cells_then}
 
 module _ (l : BinTable) (a : List ℕ) (c : TableData) (list : List Cell) where
@@ -33,7 +34,7 @@ module _ (l : BinTable) (a : List ℕ) (c : TableData) (list : List Cell) where
   rows = row_entries l a c.choice c.heap
 
   -- of a result o, where w is what reads from c on come to: the stored cells and then those of later rows, or the end
-  record Read (w : Reading) (o : Result) : Type 0 where
+  record Read (w : Reading) (o : StepResult) : Type 0 where
     pub reads : w
         ≡ cond (row_by o.reply) (and_then (take (stored_by o.reply) o.list) (rows_from m l a o.cursor))
         (ended (number_by o.reply))
@@ -79,50 +80,40 @@ module _ (l : BinTable) (a : List ℕ) (c : TableData) (list : List Cell) where
       rw (fit, t, e) (record { reads = refl; inside = omega arith; next = λ e. absurd (false≢true e) })))
       (λ fit. rw fit (record { reads = refl; inside = omega arith; next = λ e. absurd (false≢true e) }))
 
-  -- as many cells as the answer says are stored
-  pub row_stored : (r : Stepped) (zs : List Cell) → result_of r zs ≡ cursor_step l a c (read_row list)
-      → stored_cells r.answer ≤ length zs
-  row_stored r zs h = subst (λ (o : Result). stored_by o.reply ≤ length o.list) (sym h) row_read.inside
+-- a turn of the loop: what the read returned and left in the list, the sum so far, and what is returned in the end
+module _ (l : BinTable) (a : List ℕ) (c : TableData) (list zs : List Cell) (r : Stepped (Option ℕ))
+    (read : row_result r.cursor r.answer zs ≡ cursor_step l a c (read_row list)) where
+  turn : Read l a c list (rows_from (length list) l a c) (row_result r.cursor r.answer zs)
+  turn = subst (λ (o : StepResult). Read l a c list (rows_from (length list) l a c) o) (sym read) (row_read l a c list)
 
--- ---- the loop over the rows
+  -- of a row: its cells are stored, their sum is added, and the cursor is at the next row
+  module _ (n : ℕ) (e : r.answer ≡ Ok (Some n)) where
+    row_turn : Read l a c list (rows_from (length list) l a c) (row_result r.cursor (Ok (Some n)) zs)
+    row_turn = rw e at turn
 
--- what is returned in the end, and how many turns are left at most
-abbrev pub whole_sum : ℕ → BinTable → List ℕ → RowSum → ℕ
-whole_sum m l a s = cond s.more (sum_then s.sum (rows_from m l a s.cursor)) s.total
+    pub row_stored : n ≤ length zs
+    row_stored = row_turn.inside
 
-abbrev pub turns_left : BinTable → RowSum → ℕ
-turns_left l s = cond s.more (suc (l.naxis2 - s.cursor.row)) 0
+    pub row_added : (s t m : ℕ) → length list ≡ m → sum_then s (rows_from m l a c) ≡ t
+        → sum_then (add_cells s (take n zs)) (rows_from m l a r.cursor) ≡ t
+    row_added s t m q same =
+        let later = rows_from (length list) l a r.cursor in
+        let w : sum_then (add_cells s (take n zs)) later ≡ sum_then s (rows_from (length list) l a c) =
+        rw row_turn.reads (ap (with_number later.number) (cells_then s (take n zs) later.cells)) in
+        rw q at (w ∙ rw (← q) at same)
 
--- no cell is stored where no row is read
-none_stored : (q : Reply) → row_by q ≡ false → stored_by q ≡ 0
-none_stored (got_cell c) e = refl
-none_stored (got_row k) e = absurd (true≢false e)
-none_stored sought e = refl
-none_stored at_end e = refl
-none_stored (refused n p) e = refl
+    pub row_fewer : l.naxis2 - r.cursor.row < l.naxis2 - c.row
+    row_fewer = let k = row_turn.next refl in rw k.1 (omega (arith, k.0))
 
-module _ (l : BinTable) (a : List ℕ) (s : RowSum) (list : List Cell) (more : s.more ≡ true) where
-  abbrev o : Result
-  o = cursor_step l a s.cursor (read_row list)
-
-  same_sum : whole_sum (length list) l a (row_sum_at s.sum o) ≡ whole_sum (length list) l a s
-  same_sum =
-      let h = (row_read l a s.cursor list).reads in
-      let later = rows_from (length list) l a o.cursor in
-      either (row_by o.reply)
-      (λ t.
-      let stored = take (stored_by o.reply) o.list in
-      rw (more, t, rw t at h) (ap (with_number later.number) (cells_then s.sum stored later.cells)))
-      (λ t. rw (more, t, none_stored o.reply t, rw t at h))
-
-  -- the same with the length by another name, and for what the sum is known to be
-  pub sum_kept : (m t : ℕ) → length list ≡ m → whole_sum m l a s ≡ t → whole_sum m l a (row_sum_at s.sum o) ≡ t
-  sum_kept m t e h =
-      subst (λ (k : ℕ). whole_sum k l a s ≡ t → whole_sum k l a (row_sum_at s.sum o) ≡ t) e (λ g. same_sum ∙ g) h
-
-  pub fewer_turns : turns_left l (row_sum_at s.sum o) < turns_left l s
-  fewer_turns =
-      let h = (row_read l a s.cursor list).next in
-      either (row_by o.reply)
-      (λ t. let k = h t in rw (more, t, k.1) (omega (arith, k.0)))
-      (λ t. rw (more, t) (omega arith))
+  -- of any other answer
+  pub rows_ended : (s t m : ℕ) → ((n : ℕ) → r.answer ≡ Ok (Some n) → ⊥) → length list ≡ m → sum_then s (rows_from m l a c) ≡ t
+      → with_number (number_in r.answer) s ≡ t
+  unfolding add_cells
+  rows_ended s t m none q same = ended_by r.answer none turn.reads
+    where
+      ended_by : (y : Result (Option ℕ) Refusal) → ((n : ℕ) → y ≡ Ok (Some n) → ⊥)
+          → rows_from (length list) l a c ≡ cond (row_by (row_reply y)) (and_then (take (stored_by (row_reply y)) zs) (rows_from (length list) l a r.cursor)) (ended (number_by (row_reply y)))
+          → with_number (number_in y) s ≡ t
+      ended_by (Ok (Some n)) none w = absurd (none n refl)
+      ended_by (Ok None) none w = let z = rw (← q, w) at same in z
+      ended_by (Err x) none w = let z = rw (← q, w) at same in z

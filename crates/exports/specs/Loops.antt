@@ -1,13 +1,13 @@
 -- What the loops over a table go by: what reads from a cursor on come to, and what one read says of it. Only contracts of private functions cite it.
 -- Assumes nothing.
-use Rattle.std.specs.Prelude.{ℕ, ◌-◌, Bool, true, false, cond, List, take}
+use Rattle.std.specs.Prelude.{ℕ, ◌-◌, Bool, true, false, cond, List, Result, Ok, Err}
+use Rattle.refusal.specs.declared.Refusal.{Refusal}
+use Rattle.refusal.specs.Refusal.{number_of}
 use Rattle.layout.specs.declared.BinTable.{BinTable}
 use Rattle.walk.specs.declared.TableData.{TableData}
-use Rattle.walk.specs.declared.Answer.{Answer}
 use Rattle.walk.specs.Plain.{row_entries}
 use Rattle.walk.specs.Walk.{Reply, got_cell, got_row, sought, at_end, refused}
-use Rattle.walk.specs.Step.{belongs, cursor_left, Result, reply_of}
-use Rattle.exports.specs.declared.rows.RowSum.{RowSum}
+use Rattle.walk.specs.Step.{belongs, cursor_left}
 use Rattle.exports.specs.Checksum.{add_cells, with_number}
 use Rattle.exports.specs.Reads.{Reading, ended, cell_reads, row_reads}
 
@@ -47,20 +47,7 @@ row_by sought = false
 row_by at_end = false
 row_by (refused n p) = false
 
-abbrev pub number_in : Answer → ℕ
-number_in r = number_by (reply_of r)
-
-abbrev pub stored_cells : Answer → ℕ
-stored_cells r = stored_by (reply_of r)
-
-abbrev pub is_row : Answer → Bool
-is_row r = row_by (reply_of r)
-
--- ---- the loop over the rows
-
--- a sum with the cells that a row read stored, the cursor, whether there may be more, and what is returned if not
-abbrev pub row_sum : ℕ → TableData → Reply → RowSum
-row_sum s c q = record { sum = s; cursor = c; more = row_by q; total = with_number (number_by q) s }
-
-abbrev pub row_sum_at : ℕ → Result → RowSum
-row_sum_at s o = row_sum (add_cells s (take (stored_by o.reply) o.list)) o.cursor o.reply
+-- of an answer of the code's
+abbrev pub number_in : {A : Type 0} → Result A Refusal → ℕ
+number_in (Ok x) = 0
+number_in (Err r) = number_of r

@@ -8,7 +8,7 @@ mod columns;
 mod refusals;
 mod rows;
 
-ghost use Rattle.std.specs.Prelude.{◌≡◌, length, take};
+ghost use Rattle.std.specs.Prelude.{◌≡◌, IfOk, length, take};
 ghost use Rattle.refusal.specs.Refusal.{before, outcome_of};
 ghost use Rattle.bintable.specs.Entry.{entry, layout_in, all_checks};
 ghost use Rattle.walk.specs.Step.{listed, open_with};
@@ -16,47 +16,33 @@ ghost use Rattle.ascii.specs.Buffer.{put_in};
 ghost use Rattle.output.specs.Cells.{file_limit};
 ghost use Rattle.output.specs.Replay.{replay_lines};
 ghost use Rattle.output.specs.Page.{page_text};
+ghost use Rattle.exports.specs.declared.Start.{Start};
 ghost use Rattle.exports.specs.Checksum.{entry_sum};
 ghost use Rattle.exports.specs.Reads.{by_cells, by_rows, list_length, table_reads, reads_sum};
 
+use cells::{ByValue, Lent};
 use layout::BinTable;
-use refusal::Check;
+use refusal::Refusal;
 use walk::TableData;
 
-// What the entry and opening come to: the first refusal, or a table's layout and the cursor on it.
+// A table and the cursor on it.
 #[derive(Clone, Copy)]
 struct Start {
-    check: Check,
     layout: BinTable,
     cursor: TableData,
 }
 
-fn open_table(header: &[u8], area: &[u8], cols: &[usize], heap: bool) -> Start
-    ensures check { outcome_of result.check
+// The entry and opening, or the first refusal.
+fn open_table(header: &[u8], area: &[u8], cols: &[usize], heap: bool) -> Result<Start, Refusal>
+    ensures check { outcome_of result
         ≡ before (all_checks header.now area.now)
-        (open_with result.layout area.now (listed cols.now) heap).outcome }
-    ensures layout { result.layout ≡ layout_in (entry header.now area.now) }
-    ensures cursor { result.cursor
-        ≡ (open_with result.layout area.now (listed cols.now) heap).cursor }
+        (open_with (layout_in (entry header.now area.now)) area.now (listed cols.now) heap).outcome }
+    ensures start { IfOk result (λ (s : Start). (s.layout ≡ layout_in (entry header.now area.now))
+        × (s.cursor ≡ (open_with s.layout area.now (listed cols.now) heap).cursor)) }
 {
-    let parsed = bintable::parse(header, area);
-    let entry = parsed.check;
-    let layout = parsed.layout;
-    let opened = table::select_fields(layout, area, cols, heap);
-    let opening = opened.check;
-    let cursor = opened.cursor;
-    match entry {
-        Check::Refused(refusal) => Start {
-            check: Check::Refused(refusal),
-            layout,
-            cursor,
-        },
-        Check::Passed => Start {
-            check: opening,
-            layout,
-            cursor,
-        },
-    }
+    let layout = bintable::parse(header, area)?;
+    let cursor = table::select_fields(layout, area, cols, heap)?;
+    Ok(Start { layout, cursor })
 }
 
 // The checksum of the cells that cell reads of the chosen columns hand out, with the cursor by value.
@@ -65,13 +51,9 @@ pub extern "C" fn coentrift_sum_cells(header: &[u8], area: &[u8], cols: &[usize]
     ensures { result
         ≡ reads_sum (table_reads by_cells header.now area.now cols.now heap) }
 {
-    let start = open_table(header, area, cols, heap);
-    let check = start.check;
-    let layout = start.layout;
-    let cursor = start.cursor;
-    match check {
-        Check::Refused(refusal) => refusals::refused(0, refusal),
-        Check::Passed => cells::sum_cells(layout, area, cursor),
+    match open_table(header, area, cols, heap) {
+        Ok(Start { layout, cursor }) => cells::sum_cells::<ByValue>(layout, area, cursor),
+        Err(refusal) => refusals::refused(0, refusal),
     }
 }
 
@@ -81,13 +63,9 @@ pub extern "C" fn coentrift_sum_lent(header: &[u8], area: &[u8], cols: &[usize],
     ensures { result
         ≡ reads_sum (table_reads by_cells header.now area.now cols.now heap) }
 {
-    let start = open_table(header, area, cols, heap);
-    let check = start.check;
-    let layout = start.layout;
-    let cursor = start.cursor;
-    match check {
-        Check::Refused(refusal) => refusals::refused(0, refusal),
-        Check::Passed => cells::sum_lent(layout, area, cursor),
+    match open_table(header, area, cols, heap) {
+        Ok(Start { layout, cursor }) => cells::sum_cells::<Lent>(layout, area, cursor),
+        Err(refusal) => refusals::refused(0, refusal),
     }
 }
 
@@ -97,13 +75,9 @@ pub extern "C" fn coentrift_sum_rows(header: &[u8], area: &[u8], cols: &[usize],
     ensures { result
         ≡ reads_sum (table_reads (by_rows list_length) header.now area.now cols.now heap) }
 {
-    let start = open_table(header, area, cols, heap);
-    let check = start.check;
-    let layout = start.layout;
-    let cursor = start.cursor;
-    match check {
-        Check::Refused(refusal) => refusals::refused(0, refusal),
-        Check::Passed => rows::sum_rows(layout, area, cursor),
+    match open_table(header, area, cols, heap) {
+        Ok(Start { layout, cursor }) => rows::sum_rows(layout, area, cursor),
+        Err(refusal) => refusals::refused(0, refusal),
     }
 }
 
@@ -112,12 +86,9 @@ pub extern "C" fn coentrift_sum_rows(header: &[u8], area: &[u8], cols: &[usize],
 pub extern "C" fn coentrift_layout(header: &[u8], area: &[u8]) -> u64
     ensures { result ≡ entry_sum header.now (entry header.now area.now) }
 {
-    let parsed = bintable::parse(header, area);
-    let check = parsed.check;
-    let layout = parsed.layout;
-    match check {
-        Check::Refused(refusal) => refusals::refused(0, refusal),
-        Check::Passed => columns::sum_layout(header, layout) as u64,
+    match bintable::parse(header, area) {
+        Ok(layout) => columns::sum_layout(header, layout) as u64,
+        Err(refusal) => refusals::refused(0, refusal),
     }
 }
 

@@ -1,5 +1,6 @@
 -- The index of a list of names, and what one name more stores in it.
 -- Assumes nothing.
+use Rattle.std.specs.Prelude.{Option, Some, None}
 use mathlib.Core.Path.{◌≡◌, refl, sym, ap, ap₂, ◌∙◌}
 use mathlib.Core.Bool.{false}
 use mathlib.Core.List.{List, [], ◌∷◌, ◌++◌, map}
@@ -10,8 +11,6 @@ use lib.ListN.{length, get_or, set, replicate, length-map}
 use borrow.Author.Tests.{ne_eqb}
 use Rattle.ascii.specs.Text.{same}
 use Rattle.ascii.proofs.Same.{same_refl, same_false}
-use Rattle.ascii.specs.declared.Found.{Found}
-use Rattle.ascii.specs.declared.Found.TheVariants.{At, Nothing}
 use Rattle.keyword.specs.Names.{slot_names, once_names, position}
 use Rattle.header.specs.Records.{second, found, repeated, repeated_after}
 use Rattle.header.specs.Checks.{numbered, names_read, record_of, second_of, index_by}
@@ -38,19 +37,19 @@ module _ (f g : List ℕ → ℕ) where
       (map_but us j (le_of_suc-le-suc p) (λ i q r. h (suc i) (omega arith) (λ e. r (omega arith))))
 
 -- what one name more stores, in the values of a list in which each name has its own place
-module _ (us : List (List ℕ)) (own : (i : ℕ) → i < length us → position (get_or us i []) us ≡ At i) (x : List ℕ) where
-  entry_own : (f : List ℕ → ℕ) (j : ℕ) → position x us ≡ At j → entry_at (map f us) (At j) ≡ f x
+module _ (us : List (List ℕ)) (own : (i : ℕ) → i < length us → position (get_or us i []) us ≡ Some i) (x : List ℕ) where
+  entry_own : (f : List ℕ → ℕ) (j : ℕ) → position x us ≡ Some j → entry_at (map f us) (Some j) ≡ f x
   entry_own f j e = let p = position_at x us j e in map_at f us j 0 p.0 ∙ ap f p.1
 
   -- g differs from f at x alone, where it is v of the values of h and f
   module _ (f g h : List ℕ → ℕ) (v : ℕ → ℕ → ℕ) (others : (n : List ℕ) → same n x ≡ false → g n ≡ f n)
       (here : g x ≡ v (h x) (f x)) where
-    by_place : (p : Found) → position x us ≡ p
+    by_place : (p : Option ℕ) → position x us ≡ p
         → map g us ≡ stored (map f us) p (v (entry_at (map h us) p) (entry_at (map f us) p))
-    by_place Nothing e =
+    by_place None e =
         map_same f g us (λ i q. others _ (same_false _ x (λ w.
         let u = rw w at (own i q) in let z : ◌≡◌ {A = ℕ} 0 1 = cc in omega arith)))
-    by_place (At j) e =
+    by_place (Some j) e =
         let p = position_at x us j e in
         map_but f g us j p.0
         (λ i q r. others _ (same_false _ x (λ w. let u = rw w at (own i q) in let z : i ≡ j = cc in r z)))
@@ -86,14 +85,14 @@ module _ {ns : List (List ℕ)} {seen first later : List ℕ} {again : ℕ} (d :
   pub length_second : length later ≡ length slot_names
   length_second = rw d.seconds (length-map slot_names (second_number ns))
 
-none : (f : Found) (m : ℕ) → or_else f (only false m) ≡ f
-none (At k) m = refl
-none Nothing m = refl
+none : (f : Option ℕ) (m : ℕ) → or_else f (only false m) ≡ f
+none (Some k) m = refl
+none None m = refl
 
-numbered_after : (p f : Found) (m : ℕ)
+numbered_after : (p f : Option ℕ) (m : ℕ)
     → numbered (or_else f (only (found p) m)) ≡ kept_after (numbered p) (numbered f) (m + 1)
-numbered_after (At k) f m = rw (ne_eqb (k + 1) 0 (λ e. omega arith)) (numbered_kept f m)
-numbered_after Nothing f m = ap numbered (none f m)
+numbered_after (Some k) f m = rw (ne_eqb (k + 1) 0 (λ e. omega arith)) (numbered_kept f m)
+numbered_after None f m = ap numbered (none f m)
 
 module _ (ns : List (List ℕ)) (x : List ℕ) where
   abbrev number : ℕ
@@ -116,11 +115,11 @@ module _ (ns : List (List ℕ)) (x : List ℕ) where
   second_own = ap numbered (rw (same_refl x) at (second_snoc x x ns))
       ∙ numbered_after (position x ns) (second x ns) (length ns)
 
-  repeated_own : (p : Found) → position x once_names ≡ p
+  repeated_own : (p : Option ℕ) → position x once_names ≡ p
       → numbered (repeated more)
       ≡ kept_after (entry_at (map (first_number ns) once_names) p) (numbered (repeated ns)) number
-  repeated_own Nothing e = ap numbered ((rw e at (repeated_snoc x [] ns)) ∙ none (repeated ns) (length ns))
-  repeated_own (At j) e =
+  repeated_own None e = ap numbered ((rw e at (repeated_snoc x [] ns)) ∙ none (repeated ns) (length ns))
+  repeated_own (Some j) e =
       ap numbered (rw e at (repeated_snoc x [] ns)) ∙ numbered_after (position x ns) (repeated ns) (length ns)
       ∙ ap (λ (o : ℕ). kept_after o (numbered (repeated ns)) number)
       (sym (entry_own once_names once_own x (first_number ns) j e))

@@ -1,5 +1,6 @@
 -- What a slot of an index says, and what an accepted header is, for callers.
 -- Assumes nothing.
+use Rattle.std.specs.Prelude.{Option}
 use mathlib.Core.Path.{◌≡◌, ◌∙◌, ap}
 use mathlib.Core.Bool.{true, false}
 use mathlib.Core.List.{List, []}
@@ -7,7 +8,6 @@ use Prim.Native.Nat.{ℕ, ◌<◌}
 use native.Mathlib.Omega.{arith}
 use lib.ListN.{length, get_or}
 use Rattle.ascii.proofs.Cases.{either}
-use Rattle.ascii.specs.declared.Found.{Found}
 use Rattle.keyword.specs.Names.{slot_names}
 use Rattle.header.specs.Records.{records, has_end, names}
 use Rattle.refusal.specs.Refusal.{accepted}
@@ -16,7 +16,7 @@ use Rattle.keyword.proofs.Position.{map_at}
 use Rattle.header.proofs.Pass.{placed_numbered}
 
 -- the record of the slot's name
-pub slot_place : (place : List ℕ → Found) (s : ℕ) → s < length slot_names
+pub slot_place : (place : List ℕ → Option ℕ) (s : ℕ) → s < length slot_names
     → placed (get_or (index_by place) s 0) ≡ place (get_or slot_names s [])
 unfolding index_by
 slot_place place s p = ap placed (map_at (λ (n : List ℕ). numbered (place n)) slot_names s 0 p)

@@ -1,5 +1,6 @@
 -- The pass over the records: the index after k records, one record more, and the index at END.
 -- Assumes nothing.
+use Rattle.std.specs.Prelude.{Option, Some, None}
 use mathlib.Core.Path.{◌≡◌, refl, ap, ◌∙◌}
 use mathlib.Core.Bool.{true, false}
 use mathlib.Core.List.{List, [], ◌∷◌, ◌++◌, map, map-append}
@@ -9,8 +10,6 @@ use native.Mathlib.Omega.{arith}
 use lib.ListN.{length, take, length-map}
 use lib.Seq.{take-suc, length-take-le}
 use Rattle.card.specs.Record.{card_at, is_end, name_of}
-use Rattle.ascii.specs.declared.Found.{Found}
-use Rattle.ascii.specs.declared.Found.TheVariants.{At, Nothing}
 use Rattle.keyword.specs.Names.{slot_names, once_names, position}
 use Rattle.header.specs.Records.{records, has_end, names, repeated}
 use Rattle.refusal.specs.Refusal.{refused}
@@ -23,14 +22,14 @@ use Rattle.header.proofs.Indexed.{Indexed, indexed_next}
 abbrev pub names_to : List ℕ → ℕ → List (List ℕ)
 names_to h k = map name_of (take k (records h))
 
-pub placed_numbered : (f : Found) → placed (numbered f) ≡ f
-placed_numbered (At k) = rw (add-one k)
-placed_numbered Nothing = refl
+pub placed_numbered : (f : Option ℕ) → placed (numbered f) ≡ f
+placed_numbered (Some k) = rw (add-one k)
+placed_numbered None = refl
 
 -- a number that is not 0 stands for a place
-pub placed_some : (n : ℕ) → (n ≡ 0 → ⊥) → placed n ≡ At (n - 1)
+pub placed_some : (n : ℕ) → (n ≡ 0 → ⊥) → placed n ≡ Some (n - 1)
 placed_some zero h = absurd (h refl)
-placed_some (suc k) h = ap At (omega arith)
+placed_some (suc k) h = ap Some (omega arith)
 
 module _ (h : List ℕ) (k : ℕ) (p : k < length h / 80) where
   inside : k < length (records h)
@@ -46,7 +45,7 @@ module _ (h : List ℕ) (k : ℕ) (p : k < length h / 80) where
 
   module _ (seen first later : List ℕ) (again : ℕ) (d : Indexed (names_to h k) seen first later again) where
     -- one record more, by what the code finds and stores
-    module _ (o s : Found) (eo : o ≡ position (name_of (card_at h k)) once_names)
+    module _ (o s : Option ℕ) (eo : o ≡ position (name_of (card_at h k)) once_names)
         (es : s ≡ position (name_of (card_at h k)) slot_names)
         (earlier old : ℕ) (ee : earlier ≡ entry_at seen o) (ef : old ≡ entry_at first s) where
       pub pass_next : (seen' first' later' : List ℕ) (again' : ℕ)

@@ -1,5 +1,6 @@
 -- What one name more at the end of a list changes in the places of a name, and in the first repeated one.
 -- Assumes nothing.
+use Rattle.std.specs.Prelude.{Option, Some, None}
 use mathlib.Core.Path.{◌≡◌, refl, ap, ◌∙◌}
 use mathlib.Core.Bool.{Bool, true, false, ◌&&◌, cond, and-true}
 use mathlib.Core.List.{List, [], ◌∷◌, ◌++◌, append-nil}
@@ -11,8 +12,6 @@ use lib.Seq.{append_snoc}
 use borrow.Author.Tests.{ne_eqb}
 use Rattle.ascii.specs.Text.{same}
 use Rattle.ascii.proofs.Cases.{either}
-use Rattle.ascii.specs.declared.Found.{Found}
-use Rattle.ascii.specs.declared.Found.TheVariants.{At, Nothing}
 use Rattle.keyword.specs.Names.{once_names, later, further, position}
 use Rattle.header.specs.Records.{second, found, repeated_after}
 use Rattle.header.specs.Checks.{numbered}
@@ -20,21 +19,21 @@ use Rattle.header.specs.Noting.{kept}
 use Rattle.keyword.proofs.Position.{or_else, position_append}
 
 -- a place m, if a test holds
-abbrev pub only : Bool → ℕ → Found
-only t m = cond t (At m) Nothing
+abbrev pub only : Bool → ℕ → Option ℕ
+only t m = cond t (Some m) None
 
-alone : (t : Bool) (m : ℕ) → further m (cond t (At 0) (later Nothing)) ≡ only t m
-alone true m = ap At (add-zero m)
+alone : (t : Bool) (m : ℕ) → further m (cond t (Some 0) (later None)) ≡ only t m
+alone true m = ap Some (add-zero m)
 alone false m = refl
 
-later_only : (f : Found) (t : Bool) (m : ℕ) → later (or_else f (only t m)) ≡ or_else (later f) (only t (suc m))
-later_only (At k) t m = refl
-later_only Nothing true m = refl
-later_only Nothing false m = refl
+later_only : (f : Option ℕ) (t : Bool) (m : ℕ) → later (or_else f (only t m)) ≡ or_else (later f) (only t (suc m))
+later_only (Some k) t m = refl
+later_only None true m = refl
+later_only None false m = refl
 
-later_found : (f : Found) → found (later f) ≡ found f
-later_found (At k) = refl
-later_found Nothing = refl
+later_found : (f : Option ℕ) → found (later f) ≡ found f
+later_found (Some k) = refl
+later_found None = refl
 
 module _ (n x : List ℕ) where
   pub position_snoc : (xs : List (List ℕ)) → position n (xs ++ (x ∷ [])) ≡ or_else (position n xs) (only (same n x) (length xs))
@@ -44,7 +43,7 @@ module _ (n x : List ℕ) where
   second_step : (ys : List (List ℕ)) (u : Bool)
       → second n (ys ++ (x ∷ [])) ≡ or_else (second n ys) (only (same n x && found (position n ys)) (length ys))
       → later (cond u (position n (ys ++ (x ∷ []))) (second n (ys ++ (x ∷ []))))
-      ≡ or_else (later (cond u (position n ys) (second n ys))) (only (same n x && found (cond u (At 0) (later (position n ys)))) (suc (length ys)))
+      ≡ or_else (later (cond u (position n ys) (second n ys))) (only (same n x && found (cond u (Some 0) (later (position n ys)))) (suc (length ys)))
   second_step ys true ih = ap later (position_snoc ys) ∙ later_only (position n ys) (same n x) (length ys) ∙ rw (and-true (same n x))
   second_step ys false ih =
       ap later ih ∙ later_only (second n ys) (same n x && found (position n ys)) (length ys) ∙ rw (later_found (position n ys))
@@ -64,6 +63,6 @@ repeated_snoc x seen (y ∷ ys) =
     either t (λ e. rw e) (λ e. rw e (rw (append_snoc seen y ys) at (repeated_snoc x (seen ++ (y ∷ [])) ys)))
 
 -- a place that is kept, as numbers
-pub numbered_kept : (f : Found) (m : ℕ) → numbered (or_else f (At m)) ≡ kept (numbered f) (m + 1)
-numbered_kept (At k) m = rw (ne_eqb (k + 1) 0 (λ e. omega arith))
-numbered_kept Nothing m = refl
+pub numbered_kept : (f : Option ℕ) (m : ℕ) → numbered (or_else f (Some m)) ≡ kept (numbered f) (m + 1)
+numbered_kept (Some k) m = rw (ne_eqb (k + 1) 0 (λ e. omega arith))
+numbered_kept None m = refl

@@ -1,11 +1,9 @@
 -- The records of a header up to END and the names that they hold (FORMAT.md, sections 2 and 4; the standard, 4.4.1), the first repeated name
 -- (section 5), and where a header ends in a file (section 6).
 -- Assumes nothing.
-use Rattle.std.specs.Prelude.{ℕ, ◌+◌, ◌*◌, ◌/◌, min, List, [], ◌∷◌, ◌++◌, map, Bool, true, false, ◌&&◌, ◌||◌, cond, length}
+use Rattle.std.specs.Prelude.{ℕ, ◌+◌, ◌*◌, ◌/◌, min, List, [], ◌∷◌, ◌++◌, map, Bool, true, false, ◌&&◌, ◌||◌, cond, length, Option, Some, None}
 use Rattle.ascii.specs.Text.{same}
 use Rattle.card.specs.Record.{card_at, is_end, name_of}
-use Rattle.ascii.specs.declared.Found.{Found}
-use Rattle.ascii.specs.declared.Found.TheVariants.{At, Nothing}
 use Rattle.keyword.specs.Names.{range, once_names, later, position}
 
 -- the whole records of a header, in order
@@ -27,22 +25,22 @@ unfoldable pub names : List ℕ → List (List ℕ)
 names h = map name_of (before_end (records h))
 
 -- the second place of a name in a list of names
-unfoldable pub second : List ℕ → List (List ℕ) → Found
-second n [] = Nothing
+unfoldable pub second : List ℕ → List (List ℕ) → Option ℕ
+second n [] = None
 second n (x ∷ xs) = later (cond (same n x) (position n xs) (second n xs))
 
 -- whether there is a place
-abbrev pub found : Found → Bool
-found (At k) = true
-found Nothing = false
+abbrev pub found : Option ℕ → Bool
+found (Some k) = true
+found None = false
 
 -- the first name that must not stand twice and stands in an earlier record, as the number of its record; `seen` are the names of the records before
 -- the list
-unfoldable pub repeated_after : List (List ℕ) → List (List ℕ) → Found
-repeated_after seen [] = Nothing
-repeated_after seen (n ∷ ns) = cond (found (position n once_names) && found (position n seen)) (At (length seen)) (repeated_after (seen ++ (n ∷ [])) ns)
+unfoldable pub repeated_after : List (List ℕ) → List (List ℕ) → Option ℕ
+repeated_after seen [] = None
+repeated_after seen (n ∷ ns) = cond (found (position n once_names) && found (position n seen)) (Some (length seen)) (repeated_after (seen ++ (n ∷ [])) ns)
 
-abbrev pub repeated : List (List ℕ) → Found
+abbrev pub repeated : List (List ℕ) → Option ℕ
 repeated ns = repeated_after [] ns
 
 -- where a header ends in the bytes of a file: with the 2,880-byte block, 36 records, that has END, whose number is that of the records before it; at the

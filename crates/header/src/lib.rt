@@ -8,32 +8,31 @@ ghost use Rattle.header.specs.Records.{header_len};
 ghost use Rattle.refusal.specs.Refusal.{outcome_of};
 ghost use Rattle.header.specs.Checks.{checked, record_of, second_of, placed, index_by};
 
-use ascii::Found;
 use keyword::SLOTS;
-use refusal::{Check, Refusal};
+use refusal::Refusal;
 
 // What checks 1, 2 and 3 of a header come to (docs/FORMAT.md, section 5), and its index: for each slot an entry for
 // the first record that has its name, and for the second. An entry is 0 for none, else one more than the record's
 // number.
 #[derive(Clone, Copy)]
 pub struct Header {
-    pub check: Check,
+    pub check: Result<(), Refusal>,
     pub first: [u16; SLOTS],
     pub second: [u16; SLOTS],
 }
 
 // The record that an index gives for a slot.
-pub fn record_of(index: &[u16], slot: usize) -> Found
+pub fn record_of(index: &[u16], slot: usize) -> Option<usize>
     ensures { result ≡ placed (get_or index.now slot 0) }
 {
     if slot < index.len() {
         let entry = index[slot];
         if entry == 0 {
-            return Found::Nothing;
+            return None;
         }
-        return Found::At((entry - 1) as usize);
+        return Some((entry - 1) as usize);
     }
-    Found::Nothing
+    None
 }
 
 // Checks a header and indexes its used names, in one pass over its records. The index is empty where
@@ -45,13 +44,13 @@ pub fn parse(header: &[u8]) -> Header
 {
     let n = header.len();
     if n == 0 {
-        return records::refused(Check::Refused(Refusal::BadLength));
+        return records::refused(Err(Refusal::BadLength));
     }
     if 57600 < n {
-        return records::refused(Check::Refused(Refusal::BadLength));
+        return records::refused(Err(Refusal::BadLength));
     }
     if n % 2880 != 0 {
-        return records::refused(Check::Refused(Refusal::BadLength));
+        return records::refused(Err(Refusal::BadLength));
     }
     records::read_records(header)
 }

@@ -1,18 +1,16 @@
 // The pass over the records. An entry of the index is 0 for none, else one more than the record's number.
 ghost use Rattle.std.specs.Prelude.{◌≡◌, false, ℕ, ◌+◌, ◌*◌, ◌/◌, ◌<◌, ◌^◌, min, length, replicate};
-ghost use Rattle.ascii.specs.declared.Found.TheVariants.{At};
 ghost use Rattle.keyword.specs.Names.{slot_names};
 ghost use Rattle.header.specs.Noting.{entry_at, stored, kept, kept_after};
 ghost use Rattle.refusal.specs.Refusal.{outcome_of};
 ghost use Rattle.header.specs.Checks.{bad_length, repetition, checked, record_of, second_of, placed, index_by};
 
 use super::Header;
-use ascii::Found;
 use keyword::{ONCE, SLOTS};
-use refusal::{Check, Refusal};
+use refusal::Refusal;
 
 // A refusal beside the empty index.
-pub fn refused(check: Check) -> Header
+pub fn refused(check: Result<(), Refusal>) -> Header
     ensures { (result.check ≡ check)
         × ((result.first ≡ replicate (length slot_names) 0) × (result.second ≡ replicate (length slot_names) 0)) }
 {
@@ -56,12 +54,12 @@ fn second_entry(first: u16, old: u16, entry: u16) -> u16
 }
 
 // Keeps an entry at a place if `first` is not 0, and gives what stood there.
-fn note(index: &mut [u16], place: Found, first: u16, entry: u16) -> u16
-    requires { (s : ℕ) → place ≡ At s → s < length index.old }
+fn note(index: &mut [u16], place: Option<usize>, first: u16, entry: u16) -> u16
+    requires { (s : ℕ) → place ≡ Some s → s < length index.old }
     ensures old { result ≡ entry_at index.old place }
     ensures index { index.new ≡ stored index.old place (kept_after first (entry_at index.old place) entry) }
 {
-    let Found::At(s) = place else {
+    let Some(s) = place else {
         return 0;
     };
     let old = index[s];
@@ -69,13 +67,13 @@ fn note(index: &mut [u16], place: Found, first: u16, entry: u16) -> u16
     old
 }
 
-fn check_of(repeated: u16) -> Check
+fn check_of(repeated: u16) -> Result<(), Refusal>
     ensures { outcome_of result ≡ repetition (placed repeated) }
 {
     if repeated == 0 {
-        return Check::Passed;
+        return Ok(());
     }
-    Check::Refused(Refusal::RepeatedName {
+    Err(Refusal::RepeatedName {
         record: (repeated - 1) as usize,
     })
 }
@@ -111,5 +109,5 @@ pub fn read_records(header: &[u8]) -> Header
         note(&mut second, slot, old, entry);
         repeated = second_entry(earlier, repeated, entry);
     }
-    refused(Check::Refused(Refusal::MissingEnd))
+    refused(Err(Refusal::MissingEnd))
 }

@@ -1,5 +1,6 @@
 -- Laws of `numeral`: which lists are numerals of 1 to 999, and what number each says.
 -- Assumes nothing.
+use Rattle.std.specs.Prelude.{Some, None}
 use mathlib.Core.Path.{◌≡◌, refl, sym, ap, subst, ◌∙◌}
 use mathlib.Core.Bool.{Bool, true, false, cond}
 use mathlib.Core.List.{List, [], ◌∷◌, ◌++◌, map, map-append}
@@ -9,7 +10,6 @@ use lib.ListN.{length, drop, get_or, drop_of_length-le, length-map}
 use lib.Seq.{drop-cons}
 use lib.Dec.{ltb}
 use borrow.Author.Tests.{lt-ltb, le-ltb, ltb-true, ltb-false}
-use Rattle.ascii.specs.declared.Found.TheVariants.{At, Nothing}
 use Rattle.ascii.specs.Text.{decimal}
 use Rattle.keyword.specs.Names.{range, numeral, position, index_limit}
 use Rattle.keyword.proofs.Position.{position_at, position_no, position_value, position_front, below, range_append, length_range}
@@ -115,19 +115,19 @@ numeral_says (a ∷ b ∷ c ∷ d ∷ s) h = absurd (omega arith)
 pub numeral_injective : (m n : ℕ) → m < 1000 → n < 1000 → numeral m ≡ numeral n → m ≡ n
 numeral_injective m n p q e = sym (value_numeral m p) ∙ ap (decimal 0) e ∙ value_numeral n q
 
-pub index_at : (n : ℕ) → 1 ≤ n → n ≤ index_limit → position (numeral n) (map numeral (range 1 index_limit)) ≡ At (n - 1)
+pub index_at : (n : ℕ) → 1 ≤ n → n ≤ index_limit → position (numeral n) (map numeral (range 1 index_limit)) ≡ Some (n - 1)
 index_at n p q = position_value numeral n 1 index_limit (λ k u v. numeral_injective n k (omega arith) (omega arith)) p (omega arith)
 
-pub index_of : (s : List ℕ) → Numeral s → position s (map numeral (range 1 index_limit)) ≡ At (decimal 0 s - 1)
+pub index_of : (s : List ℕ) → Numeral s → position s (map numeral (range 1 index_limit)) ≡ Some (decimal 0 s - 1)
 index_of s h =
     let t = numeral_says s h in
-    subst (λ (l : List ℕ). position l (map numeral (range 1 index_limit)) ≡ At (decimal 0 s - 1)) t.again
+    subst (λ (l : List ℕ). position l (map numeral (range 1 index_limit)) ≡ Some (decimal 0 s - 1)) t.again
     (index_at (decimal 0 s) t.least (omega (arith, t.most)))
 
-pub index_none : (s : List ℕ) → (Numeral s → ⊥) → position s (map numeral (range 1 index_limit)) ≡ Nothing
+pub index_none : (s : List ℕ) → (Numeral s → ⊥) → position s (map numeral (range 1 index_limit)) ≡ None
 index_none s h = position_no s numeral 1 index_limit (λ k p q e. h (subst Numeral (sym e) (numeral_is k p q)))
 
-pub index_below : (s : List ℕ) (k : ℕ) → position s (map numeral (range 1 index_limit)) ≡ At k → k < index_limit
+pub index_below : (s : List ℕ) (k : ℕ) → position s (map numeral (range 1 index_limit)) ≡ Some k → k < index_limit
 index_below s k h =
     subst (λ (l : ℕ). k < l) (length-map (range 1 index_limit) numeral ∙ length_range 1 index_limit)
     (position_at s (map numeral (range 1 index_limit)) k h).0

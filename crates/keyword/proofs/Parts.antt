@@ -1,6 +1,7 @@
 -- Where a name stands among the single names and the names of some roots: its first five bytes tell which of them
 -- can have it.
 -- Assumes nothing.
+use Rattle.std.specs.Prelude.{Option, Some, None}
 use mathlib.Core.Path.{◌≡◌, refl, sym, ap, ◌∙◌}
 use mathlib.Core.Bool.{true, false, cond}
 use mathlib.Core.List.{List, [], ◌∷◌, ◌++◌, map, flat_map, flatten}
@@ -14,8 +15,6 @@ use borrow.Author.Tests.{lt-ltb}
 use Rattle.ascii.specs.Text.{bytes, same}
 use Rattle.ascii.proofs.Cases.{either, by_test}
 use Rattle.ascii.proofs.Same.{same_true, same_not}
-use Rattle.ascii.specs.declared.Found.{Found}
-use Rattle.ascii.specs.declared.Found.TheVariants.{At, Nothing}
 use Rattle.keyword.specs.Names.{later, further, range, numeral, index_limit, column_slots, indexed, single, once_roots, other_roots, roots, names_up_to, slot_names, once_names, position}
 use Rattle.keyword.proofs.Position.{or_else, further_zero, below, position_append, position_front, position_at, position_root, position_no, length_range, map_at}
 use Rattle.keyword.proofs.Numerals.{index_front, index_below}
@@ -28,8 +27,8 @@ Fives rs = map length rs ≡ replicate (length rs) 5
 -- in front
 pub record Rooted (rs : List (List ℕ)) : Type 0 where
   pub fives : Fives rs
-  pub own : map (λ (x : List ℕ). position x rs) rs ≡ map At (range 0 (length rs))
-  pub apart : map (λ (x : List ℕ). position (take 5 x) rs) single ≡ map (λ (x : List ℕ). Nothing) single
+  pub own : map (λ (x : List ℕ). position x rs) rs ≡ map Some (range 0 (length rs))
+  pub apart : map (λ (x : List ℕ). position (take 5 x) rs) single ≡ map (λ (x : List ℕ). None) single
 
 pub all_rooted : Rooted roots
 unfolding once_roots other_roots single position range bytes same
@@ -43,41 +42,41 @@ pub length_indexed : (count : ℕ) (root : List ℕ) → length (indexed count r
 unfolding indexed
 length_indexed count root = rw (length-map, length_range)
 
-or_nothing : (f : Found) → or_else f Nothing ≡ f
-or_nothing (At k) = refl
-or_nothing Nothing = refl
+or_nothing : (f : Option ℕ) → or_else f None ≡ f
+or_nothing (Some k) = refl
+or_nothing None = refl
 
-further_further : (a b : ℕ) (f : Found) → further a (further b f) ≡ further (a + b) f
-further_further a b (At k) = ap At (omega arith)
-further_further a b Nothing = refl
+further_further : (a b : ℕ) (f : Option ℕ) → further a (further b f) ≡ further (a + b) f
+further_further a b (Some k) = ap Some (omega arith)
+further_further a b None = refl
 
 -- the place of name d of root r, where each root has `count` names
-abbrev times : ℕ → Found → Found → Found
-times count (At r) d = further (r * count) d
-times count Nothing d = Nothing
+abbrev times : ℕ → Option ℕ → Option ℕ → Option ℕ
+times count (Some r) d = further (r * count) d
+times count None d = None
 
-times_nothing : (count : ℕ) (f : Found) → times count f Nothing ≡ Nothing
-times_nothing count (At r) = refl
-times_nothing count Nothing = refl
+times_nothing : (count : ℕ) (f : Option ℕ) → times count f None ≡ None
+times_nothing count (Some r) = refl
+times_nothing count None = refl
 
-times_later : (count : ℕ) (f d : Found) → further count (times count f d) ≡ times count (later f) d
-times_later count (At r) d =
+times_later : (count : ℕ) (f d : Option ℕ) → further count (times count f d) ≡ times count (later f) d
+times_later count (Some r) d =
     rw suc-mul (further_further count (r * count) d ∙ ap (λ (b : ℕ). further b d) (omega arith))
-times_later count Nothing d = refl
+times_later count None d = refl
 
 -- a name with a root in front is no single name
-pub none_single : (n : List ℕ) (rs : List (List ℕ)) → Rooted rs → (r : ℕ) → position (take 5 n) rs ≡ At r
-    → position n single ≡ Nothing
+pub none_single : (n : List ℕ) (rs : List (List ℕ)) → Rooted rs → (r : ℕ) → position (take 5 n) rs ≡ Some r
+    → position n single ≡ None
 none_single n rs w r e = by (position n single) refl
   where
-    by : (f : Found) → position n single ≡ f → f ≡ Nothing
-    by Nothing q = refl
-    by (At s) q =
+    by : (f : Option ℕ) → position n single ≡ f → f ≡ None
+    by None q = refl
+    by (Some s) q =
         let p = position_at n single s q in
-        let g : List ℕ → Found = λ x. position (take 5 x) rs in
-        let u : g (get_or single s []) ≡ Nothing =
-        sym (map_at g single s Nothing p.0) ∙ ap (λ (l : List Found). get_or l s Nothing) w.apart
-        ∙ map_at (λ (x : List ℕ). Nothing) single s Nothing p.0 in
+        let g : List ℕ → Option ℕ = λ x. position (take 5 x) rs in
+        let u : g (get_or single s []) ≡ None =
+        sym (map_at g single s None p.0) ∙ ap (λ (l : List (Option ℕ)). get_or l s None) w.apart
+        ∙ map_at (λ (x : List ℕ). None) single s None p.0 in
         let v = rw p.1 at u in
         absurd (let z : ◌≡◌ {A = ℕ} 0 1 = cc in omega arith)
 
@@ -114,12 +113,12 @@ word_at (root ∷ rs) (suc r) h p =
 
 module _ (n : List ℕ) (count : ℕ) where
   -- the bytes after the root as a numeral
-  abbrev digits : Found
+  abbrev digits : Option ℕ
   digits = position (drop 5 n) (map numeral (range 1 count))
 
   -- the names of one root, by whether it is in front
   module _ (root : List ℕ) (h : length root ≡ 5) where
-    not_root : same (take 5 n) root ≡ false → position n (indexed count root) ≡ Nothing
+    not_root : same (take 5 n) root ≡ false → position n (indexed count root) ≡ None
     unfolding indexed
     not_root e =
         position_no n (λ (k : ℕ). root ++ numeral k) 1 count
@@ -132,9 +131,9 @@ module _ (n : List ℕ) (count : ℕ) where
         ap (λ (l : List ℕ). position l (indexed count root)) m ∙ position_root root (drop 5 n) numeral (range 1 count)
 
   -- the first of several roots is in front
-  first : (f d : Found) → or_else d (further count (times count f d)) ≡ times count (At 0) d
-  first f (At k) = rw zero-mul (sym (further_zero (At k)))
-  first f Nothing = ap (further count) (times_nothing count f)
+  first : (f d : Option ℕ) → or_else d (further count (times count f d)) ≡ times count (Some 0) d
+  first f (Some k) = rw zero-mul (sym (further_zero (Some k)))
+  first f None = ap (further count) (times_nothing count f)
 
   -- the names of all roots, by the place of the first five bytes among the roots
   in_roots : (rs : List (List ℕ)) → Fives rs
@@ -154,10 +153,10 @@ module _ (n : List ℕ) (count : ℕ) where
         ≡ or_else (position n single) (further (length single) (times count (position (take 5 n) rs) digits))
     names_parts = position_append n single (flat_map (indexed count) rs) ∙ rw (in_roots rs w.fives)
 
-    pub names_single : position (take 5 n) rs ≡ Nothing → position n (names_up_to count rs) ≡ position n single
+    pub names_single : position (take 5 n) rs ≡ None → position n (names_up_to count rs) ≡ position n single
     names_single e = names_parts ∙ rw e (or_nothing (position n single))
 
-    pub names_root : (r : ℕ) → position (take 5 n) rs ≡ At r
+    pub names_root : (r : ℕ) → position (take 5 n) rs ≡ Some r
         → position n (names_up_to count rs)
         ≡ further (length single + r * count) (below count (position (drop 5 n) (map numeral (range 1 index_limit))))
     names_root r e =
@@ -167,23 +166,23 @@ module _ (n : List ℕ) (count : ℕ) where
 -- the places that the code gives, by the first five bytes of a name
 module _ (n : List ℕ) where
   -- the bytes after the root
-  abbrev index : Found
+  abbrev index : Option ℕ
   index = position (drop 5 n) (map numeral (range 1 index_limit))
 
   once_root : position (take 5 n) once_roots ≡ below (length once_roots) (position (take 5 n) roots)
   once_root = position_front (take 5 n) once_roots other_roots
 
-  pub short_name : length n < 5 → position (take 5 n) roots ≡ Nothing
+  pub short_name : length n < 5 → position (take 5 n) roots ≡ None
   short_name h = rw (take_all 5 n (omega arith)) (by (position n roots) refl)
     where
-      by : (f : Found) → position n roots ≡ f → f ≡ Nothing
-      by Nothing q = refl
-      by (At s) q =
+      by : (f : Option ℕ) → position n roots ≡ f → f ≡ None
+      by None q = refl
+      by (Some s) q =
           let p = position_at n roots s q in
           let l = rw p.1 at (root_length roots s all_rooted.fives p.0) in
           absurd (omega arith)
 
-  module _ (e : position (take 5 n) roots ≡ Nothing) where
+  module _ (e : position (take 5 n) roots ≡ None) where
     pub single_slot : position n slot_names ≡ position n single
     unfolding slot_names
     single_slot = names_single n column_slots (omega arith) roots all_rooted e
@@ -193,25 +192,25 @@ module _ (n : List ℕ) where
     single_once =
         names_single n index_limit (omega arith) once_roots once_rooted (once_root ∙ ap (below (length once_roots)) e)
 
-  module _ (r : ℕ) (e : position (take 5 n) roots ≡ At r) where
+  module _ (r : ℕ) (e : position (take 5 n) roots ≡ Some r) where
     pub rooted_slot : position n slot_names ≡ further (length single + r * column_slots) (below column_slots index)
     unfolding slot_names
     rooted_slot = names_root n column_slots (omega arith) roots all_rooted r e
 
-    limited : (f : Found) → index ≡ f → below index_limit f ≡ f
-    limited (At k) q = rw (lt-ltb k index_limit (index_below (drop 5 n) k q))
-    limited Nothing q = refl
+    limited : (f : Option ℕ) → index ≡ f → below index_limit f ≡ f
+    limited (Some k) q = rw (lt-ltb k index_limit (index_below (drop 5 n) k q))
+    limited None q = refl
 
     pub rooted_once : position n once_names
-        ≡ cond (ltb r (length once_roots)) (further (length single + r * index_limit) index) Nothing
+        ≡ cond (ltb r (length once_roots)) (further (length single + r * index_limit) index) None
     unfolding once_names
     rooted_once =
         let f = once_root ∙ ap (below (length once_roots)) e in
-        by_test (λ (x : Found). position n once_names ≡ x) (ltb r (length once_roots))
+        by_test (λ (x : Option ℕ). position n once_names ≡ x) (ltb r (length once_roots))
         (λ t. names_root n index_limit (omega arith) once_roots once_rooted r (rw t at f)
         ∙ ap (further (length single + r * index_limit)) (limited index refl))
         (λ t. names_single n index_limit (omega arith) once_roots once_rooted (rw t at f)
         ∙ none_single n roots all_rooted r e)
 
-    pub none_once : index ≡ Nothing → position n once_names ≡ Nothing
+    pub none_once : index ≡ None → position n once_names ≡ None
     none_once d = rooted_once ∙ rw d (either (ltb r (length once_roots)) (λ t. rw t) (λ t. rw t))

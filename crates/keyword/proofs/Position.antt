@@ -1,5 +1,6 @@
 -- Laws of `position`: its cases, what a place says, a place in two lists one after the other, and a place among the values of a function.
 -- Assumes nothing.
+use Rattle.std.specs.Prelude.{Option, Some, None}
 use mathlib.Core.Path.{◌≡◌, refl, sym, ap, ap₂, ◌∙◌}
 use mathlib.Core.Bool.{Bool, true, false, cond}
 use mathlib.Core.List.{List, [], ◌∷◌, ◌++◌, map}
@@ -10,14 +11,12 @@ use lib.ListN.{length, drop, get_or}
 use lib.Seq.{drop-cons, drop-length}
 use lib.Dec.{eqb, ltb}
 use borrow.Author.Tests.{eqb-true, eqb-false, lt-ltb, le-ltb}
-use Rattle.ascii.specs.declared.Found.{Found}
-use Rattle.ascii.specs.declared.Found.TheVariants.{At, Nothing}
 use Rattle.ascii.specs.Text.{same}
 use Rattle.keyword.specs.Names.{further, range, later, position}
 use Rattle.ascii.proofs.Same.{same_true, same_refl, same_false, same_root}
 
 module _ (n x : List ℕ) (xs : List (List ℕ)) where
-  pub position_here : same n x ≡ true → position n (x ∷ xs) ≡ At 0
+  pub position_here : same n x ≡ true → position n (x ∷ xs) ≡ Some 0
   unfolding position
   position_here h = rw h
 
@@ -27,49 +26,49 @@ module _ (n x : List ℕ) (xs : List (List ℕ)) where
 
 -- a place is below the length, and the name stands there
 module _ (n : List ℕ) where
-  later_at : (x : List ℕ) (xs : List (List ℕ)) → ((s : ℕ) → position n xs ≡ At s → (s < length xs) × (get_or xs s [] ≡ n))
-      → (f : Found) → position n xs ≡ f → (s : ℕ) → later f ≡ At s → (s < length (x ∷ xs)) × (get_or (x ∷ xs) s [] ≡ n)
-  later_at x xs ih Nothing e s h = let z : ◌≡◌ {A = ℕ} 0 1 = cc in absurd (omega arith)
-  later_at x xs ih (At k) e zero h = let z : suc k ≡ 0 = cc in absurd (omega arith)
-  later_at x xs ih (At k) e (suc s) h =
+  later_at : (x : List ℕ) (xs : List (List ℕ)) → ((s : ℕ) → position n xs ≡ Some s → (s < length xs) × (get_or xs s [] ≡ n))
+      → (f : Option ℕ) → position n xs ≡ f → (s : ℕ) → later f ≡ Some s → (s < length (x ∷ xs)) × (get_or (x ∷ xs) s [] ≡ n)
+  later_at x xs ih None e s h = let z : ◌≡◌ {A = ℕ} 0 1 = cc in absurd (omega arith)
+  later_at x xs ih (Some k) e zero h = let z : suc k ≡ 0 = cc in absurd (omega arith)
+  later_at x xs ih (Some k) e (suc s) h =
       let z : suc k ≡ suc s = cc in
       let y : k ≡ s = omega arith in
-      let w = ih s (e ∙ ap At y) in
+      let w = ih s (e ∙ ap Some y) in
       (omega arith, w.1)
 
-  here_at : (t : Bool) (x : List ℕ) (xs : List (List ℕ)) → same n x ≡ t → ((s : ℕ) → later (position n xs) ≡ At s → (s < length (x ∷ xs)) × (get_or (x ∷ xs) s [] ≡ n))
-      → (s : ℕ) → cond t (At 0) (later (position n xs)) ≡ At s → (s < length (x ∷ xs)) × (get_or (x ∷ xs) s [] ≡ n)
+  here_at : (t : Bool) (x : List ℕ) (xs : List (List ℕ)) → same n x ≡ t → ((s : ℕ) → later (position n xs) ≡ Some s → (s < length (x ∷ xs)) × (get_or (x ∷ xs) s [] ≡ n))
+      → (s : ℕ) → cond t (Some 0) (later (position n xs)) ≡ Some s → (s < length (x ∷ xs)) × (get_or (x ∷ xs) s [] ≡ n)
   here_at true x xs e ih zero h = (omega arith, sym (same_true n x e))
   here_at true x xs e ih (suc s) h = let z : 0 ≡ suc s = cc in absurd (omega arith)
   here_at false x xs e ih s h = ih s h
 
-  pub position_at : (xs : List (List ℕ)) (s : ℕ) → position n xs ≡ At s → (s < length xs) × (get_or xs s [] ≡ n)
+  pub position_at : (xs : List (List ℕ)) (s : ℕ) → position n xs ≡ Some s → (s < length xs) × (get_or xs s [] ≡ n)
   unfolding position
   position_at [] s h = let z : ◌≡◌ {A = ℕ} 0 1 = cc in absurd (omega arith)
   position_at (x ∷ xs) s h = here_at (same n x) x xs refl (later_at x xs (position_at xs) (position n xs) refl) s h
 
 -- the first place of two
-abbrev pub or_else : Found → Found → Found
-or_else (At k) g = At k
-or_else Nothing g = g
+abbrev pub or_else : Option ℕ → Option ℕ → Option ℕ
+or_else (Some k) g = Some k
+or_else None g = g
 
-pub further_zero : (f : Found) → further 0 f ≡ f
-further_zero (At k) = ap At (zero-add k)
-further_zero Nothing = refl
+pub further_zero : (f : Option ℕ) → further 0 f ≡ f
+further_zero (Some k) = ap Some (zero-add k)
+further_zero None = refl
 
-further_suc : (by : ℕ) (f : Found) → further (suc by) f ≡ later (further by f)
-further_suc by (At k) = ap At (suc-add by k)
-further_suc by Nothing = refl
+further_suc : (by : ℕ) (f : Option ℕ) → further (suc by) f ≡ later (further by f)
+further_suc by (Some k) = ap Some (suc-add by k)
+further_suc by None = refl
 
-further_later : (by : ℕ) (f : Found) → further by (later f) ≡ further (suc by) f
-further_later by (At k) = ap At (omega arith)
-further_later by Nothing = refl
+further_later : (by : ℕ) (f : Option ℕ) → further by (later f) ≡ further (suc by) f
+further_later by (Some k) = ap Some (omega arith)
+further_later by None = refl
 
-later_or : (f g : Found) → later (or_else f g) ≡ or_else (later f) (later g)
-later_or (At k) g = refl
-later_or Nothing g = refl
+later_or : (f g : Option ℕ) → later (or_else f g) ≡ or_else (later f) (later g)
+later_or (Some k) g = refl
+later_or None g = refl
 
-cond_or : (t : Bool) (f g : Found) → cond t (At 0) (or_else f g) ≡ or_else (cond t (At 0) f) g
+cond_or : (t : Bool) (f g : Option ℕ) → cond t (Some 0) (or_else f g) ≡ or_else (cond t (Some 0) f) g
 cond_or true f g = refl
 cond_or false f g = refl
 
@@ -81,21 +80,21 @@ position_append n (x ∷ xs) ys =
     rw (position_append n xs ys, later_or, ← further_suc) (cond_or (same n x) (later (position n xs)) (further (suc (length xs)) (position n ys)))
 
 -- a place, if it is below m
-abbrev pub below : ℕ → Found → Found
-below m (At k) = cond (ltb k m) (At k) Nothing
-below m Nothing = Nothing
+abbrev pub below : ℕ → Option ℕ → Option ℕ
+below m (Some k) = cond (ltb k m) (Some k) None
+below m None = None
 
 -- in the first of two lists, one after the other
 pub position_front : (n : List ℕ) (xs ys : List (List ℕ)) → position n xs ≡ below (length xs) (position n (xs ++ ys))
 position_front n xs ys = by (position n xs) refl ∙ ap (below (length xs)) (sym (position_append n xs ys))
   where
-    past : (f : Found) → Nothing ≡ below (length xs) (further (length xs) f)
-    past (At k) = rw (le-ltb (length xs + k) (length xs) (omega arith))
-    past Nothing = refl
+    past : (f : Option ℕ) → None ≡ below (length xs) (further (length xs) f)
+    past (Some k) = rw (le-ltb (length xs + k) (length xs) (omega arith))
+    past None = refl
 
-    by : (f : Found) → position n xs ≡ f → f ≡ below (length xs) (or_else f (further (length xs) (position n ys)))
-    by (At k) e = rw (lt-ltb k (length xs) (position_at n xs k e).0)
-    by Nothing e = past (position n ys)
+    by : (f : Option ℕ) → position n xs ≡ f → f ≡ below (length xs) (or_else f (further (length xs) (position n ys)))
+    by (Some k) e = rw (lt-ltb k (length xs) (position_at n xs k e).0)
+    by None e = past (position n ys)
 
 -- where each name has the same bytes in front, they say nothing
 pub position_root : (root n : List ℕ) (f : ℕ → List ℕ) (xs : List ℕ) → position (root ++ n) (map (λ (k : ℕ). root ++ f k) xs) ≡ position n (map f xs)
@@ -127,7 +126,7 @@ range_at f a (suc count) zero d h = ap f (omega arith)
 range_at f a (suc count) (suc i) d h = range_at f (suc a) count i d (omega arith) ∙ ap f (omega arith)
 
 -- a name that no value is
-pub position_no : (n : List ℕ) (f : ℕ → List ℕ) (a count : ℕ) → ((k : ℕ) → a ≤ k → k < a + count → n ≡ f k → ⊥) → position n (map f (range a count)) ≡ Nothing
+pub position_no : (n : List ℕ) (f : ℕ → List ℕ) (a count : ℕ) → ((k : ℕ) → a ≤ k → k < a + count → n ≡ f k → ⊥) → position n (map f (range a count)) ≡ None
 unfolding position range
 position_no n f a zero h = refl
 position_no n f a (suc count) h =
@@ -136,8 +135,8 @@ position_no n f a (suc count) h =
 -- a name that one value is
 module _ (f : ℕ → List ℕ) (n : ℕ) where
   value_step : (a count : ℕ) (t : Bool) → eqb n a ≡ t → ((n ≡ a → ⊥) → f n ≡ f a → ⊥) → a ≤ n
-      → (suc a ≤ n → position (f n) (map f (range (suc a) count)) ≡ At (n - suc a))
-      → position (f n) (map f (range a (suc count))) ≡ At (n - a)
+      → (suc a ≤ n → position (f n) (map f (range (suc a) count)) ≡ Some (n - suc a))
+      → position (f n) (map f (range a (suc count))) ≡ Some (n - a)
   unfolding position range
   value_step a count true e ne p ih =
       let h : n ≡ a = eqb-true n a e in
@@ -148,7 +147,7 @@ module _ (f : ℕ → List ℕ) (n : ℕ) where
       let z : n - a ≡ suc (n - suc a) = omega arith in
       rw (z, same_false (f n) (f a) (ne h), ih (omega arith))
 
-  pub position_value : (a count : ℕ) → ((k : ℕ) → a ≤ k → k < a + count → f n ≡ f k → n ≡ k) → a ≤ n → n < a + count → position (f n) (map f (range a count)) ≡ At (n - a)
+  pub position_value : (a count : ℕ) → ((k : ℕ) → a ≤ k → k < a + count → f n ≡ f k → n ≡ k) → a ≤ n → n < a + count → position (f n) (map f (range a count)) ≡ Some (n - a)
   position_value a zero inj p q = absurd (omega arith)
   position_value a (suc count) inj p q =
       value_step a count (eqb n a) refl (λ h e. h (inj a (omega arith) (omega arith) e)) p
@@ -168,10 +167,10 @@ module _ (n : List ℕ) (xs : List (List ℕ)) where
         p ∙ ap (further k) (ap (position n) (drop-cons xs k [] h) ∙ position_past n (get_or xs k []) (drop (suc k) xs) t)
         ∙ further_later k (position n (drop (suc k) xs))
 
-    pub passed_here : same n (get_or xs k []) ≡ true → position n xs ≡ At k
+    pub passed_here : same n (get_or xs k []) ≡ true → position n xs ≡ Some k
     passed_here t =
-        p ∙ ap (further k) (ap (position n) (drop-cons xs k [] h) ∙ position_here n (get_or xs k []) (drop (suc k) xs) t) ∙ ap At (add-zero k)
+        p ∙ ap (further k) (ap (position n) (drop-cons xs k [] h) ∙ position_here n (get_or xs k []) (drop (suc k) xs) t) ∙ ap Some (add-zero k)
 
-  pub passed_all : Passed (length xs) → position n xs ≡ Nothing
+  pub passed_all : Passed (length xs) → position n xs ≡ None
   unfolding position
   passed_all p = p ∙ ap (λ (l : List (List ℕ)). further (length xs) (position n l)) (drop-length xs)

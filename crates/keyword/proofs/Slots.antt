@@ -1,6 +1,7 @@
 -- Laws of the lists of names, for callers: how many there are, that each name has its own place, and which name has
 -- which slot.
 -- Assumes nothing.
+use Rattle.std.specs.Prelude.{Option, Some, None}
 use mathlib.Core.Path.{◌≡◌, refl, sym, ap, ◌∙◌}
 use mathlib.Core.List.{List, [], ◌∷◌, ◌++◌, map, flat_map}
 use Prim.Native.Nat.{ℕ, zero, suc, ◌+◌, ◌-◌, ◌*◌, ◌/◌, ◌%◌, ◌<◌, ◌≤◌}
@@ -12,25 +13,23 @@ use lib.Dec.{ltb}
 use borrow.Author.Tests.{ltb-true, ltb-false, lt-ltb}
 use Rattle.ascii.specs.Text.{bytes, same}
 use Rattle.ascii.proofs.Cases.{either}
-use Rattle.ascii.specs.declared.Found.{Found}
-use Rattle.ascii.specs.declared.Found.TheVariants.{At, Nothing}
 use Rattle.keyword.specs.Names.{range, numeral, index_limit, column_slots, indexed, single, once_roots, roots, names_up_to, used_names, slot_names, once_names, position}
 use Rattle.keyword.proofs.Position.{position_append, range_at, map_at}
 use Rattle.keyword.proofs.Numerals.{index_at, index_below}
 use Rattle.keyword.proofs.Parts.{Rooted, all_rooted, once_rooted, length_indexed, root_length, names_root, names_single, single_slot, single_once, rooted_slot, none_once}
 
 -- each single name is found at its own place
-places : map (λ (x : List ℕ). position x single) single ≡ map At (range 0 (length single))
+places : map (λ (x : List ℕ). position x single) single ≡ map Some (range 0 (length single))
 unfolding position single bytes same range
 places = refl
 
 -- the place of an element of a list in which each has its own
-own_at : (us : List (List ℕ)) → map (λ (x : List ℕ). position x us) us ≡ map At (range 0 (length us)) → (s : ℕ)
+own_at : (us : List (List ℕ)) → map (λ (x : List ℕ). position x us) us ≡ map Some (range 0 (length us)) → (s : ℕ)
     → s < length us
-    → position (get_or us s []) us ≡ At s
+    → position (get_or us s []) us ≡ Some s
 own_at us h s p =
-    sym (map_at (λ (x : List ℕ). position x us) us s Nothing p) ∙ ap (λ (l : List Found). get_or l s Nothing) h
-    ∙ range_at At 0 (length us) s Nothing p ∙ ap At (omega arith)
+    sym (map_at (λ (x : List ℕ). position x us) us s None p) ∙ ap (λ (l : List (Option ℕ)). get_or l s None) h
+    ∙ range_at Some 0 (length us) s None p ∙ ap Some (omega arith)
 
 module _ (count : ℕ) where
   length_all : (rs : List (List ℕ)) → length (flat_map (indexed count) rs) ≡ length rs * count
@@ -66,7 +65,7 @@ module _ (count : ℕ) where
 
     -- each name is found at its own place
     module _ (some : 0 < count) (most : count ≤ index_limit) (w : Rooted rs) where
-      own_single : (s : ℕ) → s < length single → position (get_or (names_up_to count rs) s []) (names_up_to count rs) ≡ At s
+      own_single : (s : ℕ) → s < length single → position (get_or (names_up_to count rs) s []) (names_up_to count rs) ≡ Some s
       own_single s h =
           ap (λ (l : List ℕ). position l (names_up_to count rs))
           (get_or-append single (flat_map (indexed count) rs) [] s h)
@@ -74,25 +73,25 @@ module _ (count : ℕ) where
           ∙ rw (own_at single places s h)
 
       own_indexed : (r k : ℕ) → r < length rs → k < count
-          → position (get_or rs r [] ++ numeral (1 + k)) (names_up_to count rs) ≡ At (length single + (r * count + k))
+          → position (get_or rs r [] ++ numeral (1 + k)) (names_up_to count rs) ≡ Some (length single + (r * count + k))
       own_indexed r k p q =
           let root = get_or rs r [] in let l = root_length rs r w.fives p in
           let n = root ++ numeral (1 + k) in
           let a : position (take 5 n) rs
-          ≡ At r = ap (λ (x : List ℕ). position x rs) (take_at root (numeral (1 + k)) 5 l)
+          ≡ Some r = ap (λ (x : List ℕ). position x rs) (take_at root (numeral (1 + k)) 5 l)
           ∙ own_at rs w.own r p in
-          let d : position (drop 5 n) (map numeral (range 1 index_limit)) ≡ At k =
+          let d : position (drop 5 n) (map numeral (range 1 index_limit)) ≡ Some k =
           ap (λ (x : List ℕ). position x (map numeral (range 1 index_limit))) (drop_at root (numeral (1 + k)) 5 l)
-          ∙ index_at (1 + k) (omega arith) (omega arith) ∙ ap At (omega arith) in
-          names_root n count most rs w r a ∙ rw (d, lt-ltb k count q) (ap At (omega arith))
+          ∙ index_at (1 + k) (omega arith) (omega arith) ∙ ap Some (omega arith) in
+          names_root n count most rs w r a ∙ rw (d, lt-ltb k count q) (ap Some (omega arith))
 
       pub names_own : (s : ℕ) → s < length (names_up_to count rs)
-          → position (get_or (names_up_to count rs) s []) (names_up_to count rs) ≡ At s
+          → position (get_or (names_up_to count rs) s []) (names_up_to count rs) ≡ Some s
       names_own s h =
           either (ltb s (length single)) (λ t. own_single s (ltb-true s (length single) t))
           (λ t. past (ltb-false s (length single) t))
         where
-          past : length single ≤ s → position (get_or (names_up_to count rs) s []) (names_up_to count rs) ≡ At s
+          past : length single ≤ s → position (get_or (names_up_to count rs) s []) (names_up_to count rs) ≡ Some s
           past p =
               let i = s - length single in
               let j : i < length rs * count = omega (arith, names_length) in
@@ -101,7 +100,7 @@ module _ (count : ℕ) where
               ap (λ (l : List ℕ). position l (names_up_to count rs))
               (ap (λ (t : ℕ). get_or (names_up_to count rs) t []) (sym e)
               ∙ names_at (i / count) (i % count) r (mod-lt i some))
-              ∙ own_indexed (i / count) (i % count) r (mod-lt i some) ∙ ap At e
+              ∙ own_indexed (i / count) (i % count) r (mod-lt i some) ∙ ap Some e
 
 -- of the names with a slot and of those that must not stand twice
 pub slots_length : length slot_names ≡ length single + length roots * column_slots
@@ -112,11 +111,11 @@ pub once_length : length once_names ≡ length single + length once_roots * inde
 unfolding once_names
 once_length = names_length index_limit once_roots
 
-pub slots_own : (s : ℕ) → s < length slot_names → position (get_or slot_names s []) slot_names ≡ At s
+pub slots_own : (s : ℕ) → s < length slot_names → position (get_or slot_names s []) slot_names ≡ Some s
 unfolding slot_names
 slots_own s h = names_own column_slots roots (omega arith) (omega arith) all_rooted s h
 
-pub once_own : (s : ℕ) → s < length once_names → position (get_or once_names s []) once_names ≡ At s
+pub once_own : (s : ℕ) → s < length once_names → position (get_or once_names s []) once_names ≡ Some s
 unfolding once_names
 once_own s h = names_own index_limit once_roots (omega arith) (omega arith) once_rooted s h
 
@@ -141,26 +140,26 @@ unfolding single
 rooted_inside r k p q = omega (arith, slots_length, mul-le-mul_right column_slots p)
 
 -- a name that is not used has no place
-module _ (n : List ℕ) (e : position n used_names ≡ Nothing) where
-  pub unused : (position n slot_names ≡ Nothing) × (position n once_names ≡ Nothing)
+module _ (n : List ℕ) (e : position n used_names ≡ None) where
+  pub unused : (position n slot_names ≡ None) × (position n once_names ≡ None)
   unfolding used_names
   unused = by (position (take 5 n) roots) refl
     where
-      index : Found
+      index : Option ℕ
       index = position (drop 5 n) (map numeral (range 1 index_limit))
 
-      none : (r : ℕ) → position (take 5 n) roots ≡ At r → (f : Found) → index ≡ f
-          → (position n slot_names ≡ Nothing) × (position n once_names ≡ Nothing)
-      none r q Nothing d = (rooted_slot n r q ∙ rw d, none_once n r q d)
-      none r q (At k) d =
+      none : (r : ℕ) → position (take 5 n) roots ≡ Some r → (f : Option ℕ) → index ≡ f
+          → (position n slot_names ≡ None) × (position n once_names ≡ None)
+      none r q None d = (rooted_slot n r q ∙ rw d, none_once n r q d)
+      none r q (Some k) d =
           let u = sym (names_root n index_limit (omega arith) roots all_rooted r q) ∙ e in
           let w = rw (d, lt-ltb k index_limit (index_below (drop 5 n) k d)) at u in
           absurd (let z : ◌≡◌ {A = ℕ} 0 1 = cc in omega arith)
 
-      by : (f : Found) → position (take 5 n) roots ≡ f
-          → (position n slot_names ≡ Nothing) × (position n once_names ≡ Nothing)
-      by Nothing q =
-          let s : position n single ≡ Nothing = sym (names_single n index_limit (omega arith) roots all_rooted q)
+      by : (f : Option ℕ) → position (take 5 n) roots ≡ f
+          → (position n slot_names ≡ None) × (position n once_names ≡ None)
+      by None q =
+          let s : position n single ≡ None = sym (names_single n index_limit (omega arith) roots all_rooted q)
           ∙ e in
           (single_slot n q ∙ s, single_once n q ∙ s)
-      by (At r) q = none r q index refl
+      by (Some r) q = none r q index refl

@@ -1,9 +1,7 @@
 -- The used names (FORMAT.md, section 4; the standard, 4.4.1 and 7.3), and where a name stands in a list of names.
 -- Assumes nothing.
-use Rattle.std.specs.Prelude.{ℕ, zero, suc, ◌+◌, ◌/◌, ◌%◌, cond, ltb}
+use Rattle.std.specs.Prelude.{ℕ, zero, suc, ◌+◌, ◌/◌, ◌%◌, cond, ltb, Option, Some, None}
 use mathlib.Core.List.{List, [], ◌∷◌, ◌++◌, map, flat_map}
-use Rattle.ascii.specs.declared.Found.{Found}
-use Rattle.ascii.specs.declared.Found.TheVariants.{At, Nothing}
 use Rattle.ascii.specs.Text.{bytes, same}
 
 -- count numbers from n on
@@ -63,16 +61,16 @@ unfoldable pub slot_names : List (List ℕ)
 slot_names = names_up_to column_slots roots
 
 -- one place further on
-abbrev pub later : Found → Found
-later (At k) = At (suc k)
-later Nothing = Nothing
+abbrev pub later : Option ℕ → Option ℕ
+later (Some k) = Some (suc k)
+later None = None
 
 -- the place in a list that has `by` elements more in front
-abbrev pub further : ℕ → Found → Found
-further by (At k) = At (by + k)
-further by Nothing = Nothing
+abbrev pub further : ℕ → Option ℕ → Option ℕ
+further by (Some k) = Some (by + k)
+further by None = None
 
 -- the first place of a name in a list of names
-unfoldable pub position : List ℕ → List (List ℕ) → Found
-position n [] = Nothing
-position n (x ∷ xs) = cond (same n x) (At 0) (later (position n xs))
+unfoldable pub position : List ℕ → List (List ℕ) → Option ℕ
+position n [] = None
+position n (x ∷ xs) = cond (same n x) (Some 0) (later (position n xs))

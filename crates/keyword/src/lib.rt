@@ -3,16 +3,13 @@
 
 ghost use Rattle.std.specs.Prelude.{◌≡◌, cond, ◌+◌, ◌*◌, ◌<◌, ltb, length};
 ghost use mathlib.Core.List.{map, flatten};
-ghost use Rattle.ascii.specs.declared.Found.TheVariants.{At, Nothing};
 ghost use Rattle.keyword.specs.Names.{index_limit, column_slots, once_roots, roots, slot_names, once_names, position, further, single, numeral, range};
-
-use ascii::Found;
 
 // Where a name stands: its slot, and its place among the names that must not stand twice (specs/Names).
 #[derive(Clone, Copy)]
 pub struct Places {
-    pub slot: Found,
-    pub once: Found,
+    pub slot: Option<usize>,
+    pub once: Option<usize>,
 }
 
 // A name is used for n up to the first, and has a slot for n up to the second: the columns that this reader takes.
@@ -59,65 +56,65 @@ const ONCE_ROOTS: usize = 2;
 pub const ONCE: usize = SINGLE + ONCE_ROOTS * INDEX_LIMIT;
 
 // The digits of 1 to INDEX_LIMIT, without leading zeros, as a place counted from 0.
-fn keyword_index(s: &[u8]) -> Found
+fn keyword_index(s: &[u8]) -> Option<usize>
     ensures { result ≡ position s.now (map numeral (range 1 index_limit)) }
 {
     let n = s.len();
     if n == 0 || INDEX_DIGITS < n {
-        return Found::Nothing;
+        return None;
     }
     if s[0] == b'0' {
-        return Found::Nothing;
+        return None;
     }
     let mut sum: usize = 0;
     let mut i: usize = 0;
     while i < n {
         let b = s[i];
         if b < b'0' || b'9' < b {
-            return Found::Nothing;
+            return None;
         }
         sum = sum * 10 + (b - b'0') as usize;
         i += 1;
     }
-    Found::At(sum - 1)
+    Some(sum - 1)
 }
 
 // The place among the nine names that are not numbered by column.
-fn single_slot(name: &[u8]) -> Found
+fn single_slot(name: &[u8]) -> Option<usize>
     ensures { result ≡ position name.now single }
 {
     if ascii::same_bytes(name, b"XTENSION") {
-        return Found::At(XTENSION);
+        return Some(XTENSION);
     }
     if ascii::same_bytes(name, b"BITPIX") {
-        return Found::At(BITPIX);
+        return Some(BITPIX);
     }
     if ascii::same_bytes(name, b"NAXIS") {
-        return Found::At(NAXIS);
+        return Some(NAXIS);
     }
     if ascii::same_bytes(name, b"NAXIS1") {
-        return Found::At(NAXIS1);
+        return Some(NAXIS1);
     }
     if ascii::same_bytes(name, b"NAXIS2") {
-        return Found::At(NAXIS2);
+        return Some(NAXIS2);
     }
     if ascii::same_bytes(name, b"PCOUNT") {
-        return Found::At(PCOUNT);
+        return Some(PCOUNT);
     }
     if ascii::same_bytes(name, b"GCOUNT") {
-        return Found::At(GCOUNT);
+        return Some(GCOUNT);
     }
     if ascii::same_bytes(name, b"TFIELDS") {
-        return Found::At(TFIELDS);
+        return Some(TFIELDS);
     }
     if ascii::same_bytes(name, b"THEAP") {
-        return Found::At(THEAP);
+        return Some(THEAP);
     }
-    Found::Nothing
+    None
 }
 
 // The place among the roots. `words` has them one after the other, five bytes each.
-fn root_of(words: &[u8], root: &[u8]) -> Found
+fn root_of(words: &[u8], root: &[u8]) -> Option<usize>
     requires { words.now ≡ flatten roots }
     ensures { result ≡ position root.now roots }
 {
@@ -127,33 +124,33 @@ fn root_of(words: &[u8], root: &[u8]) -> Found
         let start = r * 5;
         let end = start + 5;
         if ascii::same_bytes(root, &words[start..end]) {
-            return Found::At(r);
+            return Some(r);
         }
         r += 1;
     }
-    Found::Nothing
+    None
 }
 
 // The slot of root r with n = k + 1.
-fn indexed_slot(r: usize, k: usize) -> Found
+fn indexed_slot(r: usize, k: usize) -> Option<usize>
     requires { (r < length roots) × (k < index_limit) }
-    ensures { result ≡ further (length single + r * column_slots) (cond (ltb k column_slots) (At k) Nothing) }
+    ensures { result ≡ further (length single + r * column_slots) (cond (ltb k column_slots) (Some k) None) }
 {
     if k < COLUMN_SLOTS {
-        return Found::At(SINGLE + r * COLUMN_SLOTS + k);
+        return Some(SINGLE + r * COLUMN_SLOTS + k);
     }
-    Found::Nothing
+    None
 }
 
 // Its place among the names that must not stand twice.
-fn indexed_once(r: usize, k: usize) -> Found
+fn indexed_once(r: usize, k: usize) -> Option<usize>
     requires { k < index_limit }
-    ensures { result ≡ cond (ltb r (length once_roots)) (At (length single + r * index_limit + k)) Nothing }
+    ensures { result ≡ cond (ltb r (length once_roots)) (Some (length single + r * index_limit + k)) None }
 {
     if r < ONCE_ROOTS {
-        return Found::At(SINGLE + r * INDEX_LIMIT + k);
+        return Some(SINGLE + r * INDEX_LIMIT + k);
     }
-    Found::Nothing
+    None
 }
 
 // The places of a name that has no root in front.
@@ -176,13 +173,13 @@ pub fn locate(name: &[u8]) -> Places
     if name.len() < 5 {
         return single_places(name);
     }
-    let Found::At(r) = root_of(b"TFORMTTYPE", &name[..5]) else {
+    let Some(r) = root_of(b"TFORMTTYPE", &name[..5]) else {
         return single_places(name);
     };
-    let Found::At(k) = keyword_index(&name[5..]) else {
+    let Some(k) = keyword_index(&name[5..]) else {
         return Places {
-            slot: Found::Nothing,
-            once: Found::Nothing,
+            slot: None,
+            once: None,
         };
     };
     Places {

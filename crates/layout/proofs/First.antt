@@ -1,5 +1,6 @@
 -- The first column that passes a test.
 -- Assumes nothing.
+use Rattle.std.specs.Prelude.{Option, Some, None}
 use Prim.Native.Nat.{ℕ, zero, suc, ◌+◌, ◌≤◌, ◌<◌}
 use mathlib.Core.Path.{◌≡◌, refl, sym, ◌∙◌, ap, subst}
 use mathlib.Core.Bool.{Bool, true, false, true≢false}
@@ -12,23 +13,21 @@ use lib.ListN.{length, get_or, drop, drop_of_length-le, get_or-eq_default}
 use lib.Seq.{drop-cons}
 use native.Mathlib.Numerals.{add-one}
 use borrow.Author.Tests.{ltb-true, ltb-false}
-use Rattle.ascii.specs.declared.Found.{Found}
-use Rattle.ascii.specs.declared.Found.TheVariants.{At, Nothing}
 use Rattle.ascii.proofs.Cases.{either}
 use Rattle.layout.specs.declared.Column.{Column}
 use Rattle.layout.specs.Layout.{no_column}
 use Rattle.layout.specs.Names.{first_column}
 
-pub not_both : (f : Found) (c : ℕ) → f ≡ Nothing → f ≡ At c → ⊥
+pub not_both : (f : Option ℕ) (c : ℕ) → f ≡ None → f ≡ Some c → ⊥
 not_both f c n a = let z : ◌≡◌ {A = ℕ} 0 1 = cc in omega arith
 
-pub nothing_else : (f : Found) → ((c : ℕ) → f ≡ At c → ⊥) → f ≡ Nothing
-nothing_else Nothing n = refl
-nothing_else (At c) n = absurd (n c refl)
+pub nothing_else : (f : Option ℕ) → ((c : ℕ) → f ≡ Some c → ⊥) → f ≡ None
+nothing_else None n = refl
+nothing_else (Some c) n = absurd (n c refl)
 
 -- the search from column i on, as a loop goes
 module _ (test : Column → Bool) (cs : List Column) (i : ℕ) where
-  pub first_here : i < length cs → test (get_or cs i no_column) ≡ true → At i ≡ first_column test i (drop i cs)
+  pub first_here : i < length cs → test (get_or cs i no_column) ≡ true → Some i ≡ first_column test i (drop i cs)
   unfolding first_column
   first_here p e = rw (drop-cons cs i no_column p, e)
 
@@ -37,7 +36,7 @@ module _ (test : Column → Bool) (cs : List Column) (i : ℕ) where
   unfolding first_column
   first_later p e = rw (add-one i, drop-cons cs i no_column p, e)
 
-  pub first_over : length cs ≤ i → Nothing ≡ first_column test i (drop i cs)
+  pub first_over : length cs ≤ i → None ≡ first_column test i (drop i cs)
   unfolding first_column
   first_over p = rw (drop_of_length-le cs {i = i} p)
 
@@ -49,10 +48,10 @@ module _ (test : Column → Bool) (none : test no_column ≡ false) where
   -- it ends at a column that passes and has none in front of it that does, or no column does
   FirstAt : ℕ → List Column → Type 0
   FirstAt i cs =
-      (d : ℕ) × (first_column test i cs ≡ At (i + d)) × (passes cs d ≡ true) × ((e : ℕ) → e < d → passes cs e ≡ false)
+      (d : ℕ) × (first_column test i cs ≡ Some (i + d)) × (passes cs d ≡ true) × ((e : ℕ) → e < d → passes cs e ≡ false)
 
   NoneAt : ℕ → List Column → Type 0
-  NoneAt i cs = (first_column test i cs ≡ Nothing) × ((e : ℕ) → passes cs e ≡ false)
+  NoneAt i cs = (first_column test i cs ≡ None) × ((e : ℕ) → passes cs e ≡ false)
 
   in_front : (x : Column) (xs : List Column) (d : ℕ) → test x ≡ false → ((e : ℕ) → e < d → passes xs e ≡ false)
       → (e : ℕ) → e < suc d → passes (x ∷ xs) e ≡ false
@@ -72,27 +71,27 @@ module _ (test : Column → Bool) (none : test no_column ≡ false) where
       (λ t. inl (0, rw (t, add-zero i) refl, t, λ e p. absurd (omega (arith, p))))
       (λ t. ⊎_elim
       (λ q. let k : suc i + q.0 ≡ i + suc q.0 = omega arith in
-      inl (suc q.0, rw t (q.1 ∙ ap At k), q.2, in_front x xs q.0 t q.3))
+      inl (suc q.0, rw t (q.1 ∙ ap Some k), q.2, in_front x xs q.0 t q.3))
       (λ q. inr (rw t q.0, nowhere x xs t q.1))
       (search_ends (suc i) xs))
 
   -- the same from the first column on
   from_front : (cs : List Column) → FirstAt 0 cs
-      → (d : ℕ) × (first_column test 0 cs ≡ At d) × (passes cs d ≡ true) × ((e : ℕ) → e < d → passes cs e ≡ false)
+      → (d : ℕ) × (first_column test 0 cs ≡ Some d) × (passes cs d ≡ true) × ((e : ℕ) → e < d → passes cs e ≡ false)
   unfolding FirstAt
-  from_front cs q = let z : 0 + q.0 ≡ q.0 = omega arith in (q.0, q.1 ∙ ap At z, q.2, q.3)
+  from_front cs q = let z : 0 + q.0 ≡ q.0 = omega arith in (q.0, q.1 ∙ ap Some z, q.2, q.3)
 
-  pub first_passes : (cs : List Column) (c : ℕ) → first_column test 0 cs ≡ At c
+  pub first_passes : (cs : List Column) (c : ℕ) → first_column test 0 cs ≡ Some c
       → (passes cs c ≡ true) × ((d : ℕ) → d < c → passes cs d ≡ false)
   unfolding NoneAt
   first_passes cs c e =
       ⊎_elim
-      (λ f. let q = from_front cs f in let g : At q.0 ≡ At c = sym q.1 ∙ e in let k : q.0 ≡ c = cc in
+      (λ f. let q = from_front cs f in let g : Some q.0 ≡ Some c = sym q.1 ∙ e in let k : q.0 ≡ c = cc in
       (subst (λ d. passes cs d ≡ true) k q.2, λ d p. q.3 d (omega (arith, k, p))))
       (λ q. absurd (not_both _ c q.0 e))
       (search_ends 0 cs)
 
-  pub first_none : (cs : List Column) → first_column test 0 cs ≡ Nothing → (c : ℕ) → passes cs c ≡ false
+  pub first_none : (cs : List Column) → first_column test 0 cs ≡ None → (c : ℕ) → passes cs c ≡ false
   unfolding NoneAt
   first_none cs e =
       ⊎_elim
@@ -101,7 +100,7 @@ module _ (test : Column → Bool) (none : test no_column ≡ false) where
       (search_ends 0 cs)
 
   pub first_upto : (cs : List Column) (c : ℕ) → passes cs c ≡ true
-      → (d : ℕ) × (first_column test 0 cs ≡ At d) × (d ≤ c) × (passes cs d ≡ true)
+      → (d : ℕ) × (first_column test 0 cs ≡ Some d) × (d ≤ c) × (passes cs d ≡ true)
   unfolding NoneAt
   first_upto cs c e =
       ⊎_elim
@@ -111,7 +110,7 @@ module _ (test : Column → Bool) (none : test no_column ≡ false) where
       (search_ends 0 cs)
 
   -- a column that is found is one of those searched
-  pub first_inside : (cs : List Column) (c : ℕ) → first_column test 0 cs ≡ At c → c < length cs
+  pub first_inside : (cs : List Column) (c : ℕ) → first_column test 0 cs ≡ Some c → c < length cs
   first_inside cs c e =
       either (ltb c (length cs))
       (ltb-true c (length cs))

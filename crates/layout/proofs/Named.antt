@@ -1,5 +1,6 @@
 -- The part of a header that is a name, and the columns of a layout that have names.
 -- Assumes nothing.
+use Rattle.std.specs.Prelude.{Some, Option, None}
 use mathlib.Core.Path.{◌≡◌, refl}
 use mathlib.Core.Bool.{true}
 use mathlib.Core.List.{List, []}
@@ -10,29 +11,27 @@ use lib.ListN.{length, get_or, take, drop, get_or-eq_default, length-take}
 use lib.Seq.{get_or-take}
 use borrow.Author.Tests.{le-leb, lt-leb, lt-ltb, le-ltb}
 use Rattle.ascii.proofs.Cases.{either}
-use Rattle.ascii.specs.declared.Found.TheVariants.{At}
 use Rattle.layout.specs.declared.Name.{Name}
-use Rattle.layout.specs.declared.Name.TheVariants.{Missing, Stretch}
 use Rattle.layout.specs.declared.BinTable.{BinTable}
 use Rattle.layout.specs.Layout.{no_column, columns_of}
 use Rattle.layout.specs.Names.{in_header, stretch_of, part_of, column_name, has_name, find_name}
 use Rattle.layout.proofs.First.{first_inside}
 
 module _ (h : List ℕ) where
-  pub part_missing : [] ≡ part_of h Missing
+  pub part_missing : [] ≡ part_of h None
   unfolding part_of
   part_missing = refl
 
-  pub part_short : (a n : ℕ) → length h < a + n → [] ≡ part_of h (Stretch a n)
+  pub part_short : (a n : ℕ) → length h < a + n → [] ≡ part_of h (Some (record { start = a; len = n }))
   unfolding part_of
   part_short a n l = rw (lt-leb (a + n) (length h) l)
 
-  pub part_whole : (a n : ℕ) → a + n ≤ length h → take (a + n - a) (drop a h) ≡ part_of h (Stretch a n)
+  pub part_whole : (a n : ℕ) → a + n ≤ length h → take (a + n - a) (drop a h) ≡ part_of h (Some (record { start = a; len = n }))
   unfolding part_of
   part_whole a n l = let e : a + n - a ≡ n = omega arith in rw (e, le-leb (a + n) (length h) l)
 
   -- a name that is reached is its part
-  pub part_in_header : (s : Name) → in_header h s ≡ true → part_of h s ≡ stretch_of h s
+  pub part_in_header : (s : Option Name) → in_header h s ≡ true → part_of h s ≡ stretch_of h s
   unfolding part_of
   part_in_header s e = rw e
 
@@ -53,7 +52,7 @@ pub column_at : (l : BinTable) (i : ℕ) → i < l.tfields → get_or (columns_o
 column_at l i p = get_or-take l.tfields l.columns i no_column p
 
 -- a column that is found is one of the layout's
-pub found_inside : (h : List ℕ) (l : BinTable) (sought : List ℕ) (c : ℕ) → find_name h l sought ≡ At c → (c < l.tfields) × (c < length l.columns)
+pub found_inside : (h : List ℕ) (l : BinTable) (sought : List ℕ) (c : ℕ) → find_name h l sought ≡ Some c → (c < l.tfields) × (c < length l.columns)
 unfolding find_name
 found_inside h l sought c e =
     let p = first_inside (has_name h sought) refl (columns_of l) c e in let n = length-take l.tfields l.columns in

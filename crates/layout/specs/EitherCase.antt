@@ -1,8 +1,7 @@
 -- What the laws on finding a name in either case speak of. No contract cites it.
 -- Assumes nothing.
-use Rattle.std.specs.Prelude.{ℕ, List, [], ◌∷◌, Bool, ◌&&◌, ◌||◌, cond, get_or, eqb, leb}
+use Rattle.std.specs.Prelude.{ℕ, List, [], ◌∷◌, Bool, ◌&&◌, ◌||◌, cond, get_or, eqb, leb, Option}
 use Rattle.ascii.specs.Text.{same}
-use Rattle.ascii.specs.declared.Found.{Found}
 use Rattle.layout.specs.declared.Column.{Column}
 use Rattle.layout.specs.declared.BinTable.{BinTable}
 use Rattle.layout.specs.Layout.{no_column, columns_of}
@@ -26,5 +25,5 @@ abbrev pub has_bytes : List ℕ → List ℕ → Column → Bool
 has_bytes h sought c = in_header h c.name && same (undoubled (stretch_of h c.name)) sought
 
 -- the first column that has the name byte for byte
-unfoldable pub find_bytes : List ℕ → BinTable → List ℕ → Found
+unfoldable pub find_bytes : List ℕ → BinTable → List ℕ → Option ℕ
 find_bytes h l sought = first_column (has_bytes h sought) 0 (columns_of l)

@@ -1,11 +1,10 @@
 -- The layout of a table, and the limits and sums that it keeps (FORMAT.md, section 8; the standard, 7.3.1, 7.3.2 and 7.3.5).
 -- Assumes nothing.
-use Rattle.std.specs.Prelude.{ℕ, ◌+◌, ◌*◌, List, [], ◌∷◌, Bool, ◌&&◌, take, replicate, eqb, leb}
+use Rattle.std.specs.Prelude.{ℕ, ◌+◌, ◌*◌, List, [], ◌∷◌, Bool, ◌&&◌, take, replicate, eqb, leb, None}
 use Rattle.keyword.specs.Names.{column_slots}
 use Rattle.tform.specs.declared.VariableArrayTy.TheVariants.{L}
 use Rattle.tform.specs.declared.TFormType.TheVariants.{Items}
 use Rattle.tform.specs.Width.{field_bytes, count_ok}
-use Rattle.layout.specs.declared.Name.TheVariants.{Missing}
 use Rattle.layout.specs.declared.Column.{Column}
 use Rattle.layout.specs.declared.BinTable.{BinTable}
 
@@ -28,7 +27,7 @@ data_limit = naxis1_limit * naxis2_limit + pcount_limit
 
 -- what stands in the array of columns where there is none
 abbrev pub no_column : Column
-no_column = record { form = Items L; count = 0; start = 0; name = Missing }
+no_column = record { form = Items L; count = 0; start = 0; name = None }
 
 -- the layout beside a refusal
 abbrev pub empty_layout : BinTable

@@ -8,8 +8,7 @@ ghost use Rattle.std.specs.Prelude.{◌≡◌};
 ghost use Rattle.layout.specs.Layout.{layout_ok};
 ghost use Rattle.layout.specs.Names.{column_name, find_name};
 
-use ascii::Found;
-use tform::TFormType;
+use tform::{TFormType, VariableArrayTy};
 
 // The limits of this reader.
 pub const NAXIS1_LIMIT: u64 = 1048576;
@@ -23,9 +22,9 @@ pub const TFIELDS_LIMIT: usize = keyword::COLUMN_SLOTS;
 
 // Where a column's name stands in the header, between the quotes, trailing spaces off.
 #[derive(Clone, Copy)]
-pub enum Name {
-    Missing,
-    Stretch { start: u32, len: u32 },
+pub struct Name {
+    pub start: u32,
+    pub len: u32,
 }
 
 // `count` is the number before the form's letter, `start` the column's first byte within a row.
@@ -34,7 +33,7 @@ pub struct Column {
     pub form: TFormType,
     pub count: u32,
     pub start: u64,
-    pub name: Name,
+    pub name: Option<Name>,
 }
 
 // The layout of a table. Its columns are the first `tfields` of `columns`.
@@ -47,6 +46,23 @@ pub struct BinTable {
     pub tfields: usize,
     pub columns: [Column; TFIELDS_LIMIT],
 }
+
+// No column, and the layout that has none.
+pub const NO_COLUMN: Column = Column {
+    form: TFormType::Items(VariableArrayTy::L),
+    count: 0,
+    start: 0,
+    name: None,
+};
+
+pub const EMPTY_LAYOUT: BinTable = BinTable {
+    naxis1: 0,
+    naxis2: 0,
+    pcount: 0,
+    theap: 0,
+    tfields: 0,
+    columns: [NO_COLUMN; TFIELDS_LIMIT],
+};
 
 // Whether a layout, which anybody can make, keeps every limit and sum.
 pub fn layout_ok(layout: BinTable) -> bool
@@ -91,7 +107,7 @@ pub fn column_name(header: &[u8], layout: BinTable, column: usize) -> &[u8]
 }
 
 // The first column that has this name, in either case, two quotes of the header counted as one.
-pub fn find_field_by_ttype(header: &[u8], layout: BinTable, name: &[u8]) -> Found
+pub fn find_field_by_ttype(header: &[u8], layout: BinTable, name: &[u8]) -> Option<usize>
     ensures { result ≡ find_name header.now layout name.now }
 {
     let count = ttype::column_count(layout.tfields);
@@ -100,9 +116,9 @@ pub fn find_field_by_ttype(header: &[u8], layout: BinTable, name: &[u8]) -> Foun
         let column = layout.columns[i];
         let own = column.name;
         if ttype::has_name(header, own, name) {
-            return Found::At(i);
+            return Some(i);
         }
         i += 1;
     }
-    Found::Nothing
+    None
 }

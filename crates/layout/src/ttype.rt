@@ -15,10 +15,10 @@ pub fn column_count(tfields: usize) -> usize
 }
 
 // The part of the header that is the name.
-pub fn part(header: &[u8], name: Name) -> &[u8]
+pub fn part(header: &[u8], name: Option<Name>) -> &[u8]
     ensures { result.now ≡ part_of header.now name }
 {
-    let Name::Stretch { start, len } = name else {
+    let Some(Name { start, len }) = name else {
         return &header[0..0];
     };
     let from = start as usize;
@@ -30,12 +30,12 @@ pub fn part(header: &[u8], name: Name) -> &[u8]
 }
 
 // Whether there is a name, and the header is long enough for it.
-fn in_header(header: &[u8], name: Name) -> bool
+fn in_header(header: &[u8], name: Option<Name>) -> bool
     ensures { result ≡ in_header header.now name }
 {
     match name {
-        Name::Missing => false,
-        Name::Stretch { start, len } => start as usize + len as usize <= header.len(),
+        None => false,
+        Some(Name { start, len }) => start as usize + len as usize <= header.len(),
     }
 }
 
@@ -100,7 +100,7 @@ fn same_name(part: &[u8], sought: &[u8]) -> bool
 }
 
 // Whether a column's name is the one sought.
-pub fn has_name(header: &[u8], name: Name, sought: &[u8]) -> bool
+pub fn has_name(header: &[u8], name: Option<Name>, sought: &[u8]) -> bool
     ensures { result ≡ (in_header header.now name && same_name (stretch_of header.now name) sought.now) }
 {
     if !in_header(header, name) {

@@ -1,5 +1,6 @@
 -- How long a value's text and a line are: what its callers need to know of the room for a line.
 -- Assumes nothing.
+use Rattle.std.specs.Prelude.{Option, None, Some}
 use Prim.Native.Nat.{ℕ, ◌+◌, ◌≤◌, ◌<◌}
 use mathlib.Core.Path.{◌≡◌}
 use mathlib.Core.List.{List, [], ◌∷◌}
@@ -9,7 +10,6 @@ use lib.ListN.{length, length-append, length-take, length-drop}
 use Rattle.ascii.specs.Text.{bytes}
 use Rattle.ascii.proofs.Cases.{by_test}
 use Rattle.layout.specs.declared.Name.{Name}
-use Rattle.layout.specs.declared.Name.TheVariants.{Missing, Stretch}
 use Rattle.layout.specs.declared.BinTable.{BinTable}
 use Rattle.layout.specs.Names.{in_header, stretch_of, part_of, column_name}
 use Rattle.refusal.specs.Refusal.{number_of, place_of}
@@ -80,9 +80,9 @@ name_length h l c =
     (λ _. by_test (λ (s : List ℕ). length s ≤ length h) (in_header h (column_of l c).name) (λ _. stretch_length (column_of l c).name) (λ _. omega arith))
     (λ _. omega arith)
   where
-    stretch_length : (s : Name) → length (stretch_of h s) ≤ length h
-    stretch_length Missing = omega arith
-    stretch_length (Stretch a n) = simp (length-take, length-drop) (omega arith)
+    stretch_length : (s : Option Name) → length (stretch_of h s) ≤ length h
+    stretch_length None = omega arith
+    stretch_length (Some s) = simp (length-take, length-drop) (omega arith)
 
 pub line_some : (h : List ℕ) (l : BinTable) (x : Line) → 0 < length (line_text h l x)
 unfolding table_line column_line cell_line end_line refused_line row_line seek_line at_end_line at_line bad_line

@@ -10,7 +10,6 @@ ghost use Rattle.std.specs.Prelude.{◌≡◌};
 ghost use Rattle.listing.specs.Lines.{line_text};
 ghost use Rattle.ascii.specs.Buffer.{written, written_to};
 
-use ascii::Written;
 use cell::Cell;
 use layout::BinTable;
 use refusal::Refusal;
@@ -36,7 +35,13 @@ pub enum Line {
 
 // Writes a line and its line feed from a place of the buffer on. The rest of the buffer stays as it was, and where
 // there is no room for all of it, all of the buffer does.
-pub fn put_line(out: &mut [u8], at: usize, header: &[u8], layout: BinTable, line: Line) -> Written
+pub fn put_line(
+    out: &mut [u8],
+    at: usize,
+    header: &[u8],
+    layout: BinTable,
+    line: Line,
+) -> Option<usize>
     ensures to { result ≡ written_to out.old at (line_text header.now layout line) }
     ensures buffer { out.new ≡ written out.old at (line_text header.now layout line) }
 {

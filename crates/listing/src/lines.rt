@@ -9,15 +9,14 @@ ghost use Rattle.ascii.specs.Number.{decimal_text};
 ghost use Rattle.listing.specs.Lines.{line, table_line, column_line, cell_line, refused_line, at_line};
 
 use crate::{values, words};
-use ascii::Written;
 use cell::Cell;
-use layout::{BinTable, Column, Name, TFIELDS_LIMIT};
+use layout::{BinTable, Column, TFIELDS_LIMIT};
 use refusal::Refusal;
 use tform::{TFormType, VariableArrayTy};
 use walk::TableData;
 
 // A line of a word and a number.
-pub fn number_line(out: &mut [u8], at: usize, word: &[u8], number: u64) -> Written
+pub fn number_line(out: &mut [u8], at: usize, word: &[u8], number: u64) -> Option<usize>
     requires { length word.now ≤ 100 }
     ensures to { result ≡ written_to out.old at (line (word.now ∷ decimal_text number ∷ [])) }
     ensures buffer { out.new ≡ written out.old at (line (word.now ∷ decimal_text number ∷ [])) }
@@ -27,7 +26,7 @@ pub fn number_line(out: &mut [u8], at: usize, word: &[u8], number: u64) -> Writt
     ascii::buffer::put_text(out, at, &text[..n])
 }
 
-pub fn refused_line(out: &mut [u8], at: usize, refusal: Refusal) -> Written
+pub fn refused_line(out: &mut [u8], at: usize, refusal: Refusal) -> Option<usize>
     ensures to { result ≡ written_to out.old at (refused_line (number_of refusal) (place_of refusal)) }
     ensures buffer { out.new ≡ written out.old at (refused_line (number_of refusal) (place_of refusal)) }
 {
@@ -37,7 +36,7 @@ pub fn refused_line(out: &mut [u8], at: usize, refusal: Refusal) -> Written
     ascii::buffer::put_text(out, at, &text[..n])
 }
 
-pub fn at_line(out: &mut [u8], at: usize, cursor: TableData) -> Written
+pub fn at_line(out: &mut [u8], at: usize, cursor: TableData) -> Option<usize>
     ensures to { result ≡ written_to out.old at (at_line cursor) }
     ensures buffer { out.new ≡ written out.old at (at_line cursor) }
 {
@@ -48,7 +47,7 @@ pub fn at_line(out: &mut [u8], at: usize, cursor: TableData) -> Written
     ascii::buffer::put_text(out, at, &text[..n])
 }
 
-pub fn cell_line(out: &mut [u8], at: usize, cell: Cell) -> Written
+pub fn cell_line(out: &mut [u8], at: usize, cell: Cell) -> Option<usize>
     ensures to { result ≡ written_to out.old at (cell_line cell) }
     ensures buffer { out.new ≡ written out.old at (cell_line cell) }
 {
@@ -62,7 +61,7 @@ pub fn cell_line(out: &mut [u8], at: usize, cell: Cell) -> Written
     ascii::buffer::put_text(out, at, &text[..whole])
 }
 
-pub fn table_line(out: &mut [u8], at: usize, layout: BinTable) -> Written
+pub fn table_line(out: &mut [u8], at: usize, layout: BinTable) -> Option<usize>
     ensures to { result ≡ written_to out.old at (table_line layout) }
     ensures buffer { out.new ≡ written out.old at (table_line layout) }
 {
@@ -76,21 +75,21 @@ pub fn table_line(out: &mut [u8], at: usize, layout: BinTable) -> Written
 
 // The start of a line, a name and the line feed. The name is a part of the header, of any length, so it does not go
 // through an array.
-fn put_named(out: &mut [u8], at: usize, start: &[u8], name: &[u8]) -> Written
+fn put_named(out: &mut [u8], at: usize, start: &[u8], name: &[u8]) -> Option<usize>
     ensures to { result ≡ written_to out.old at (start.now ++ (name.now ++ (10 ∷ []))) }
     ensures buffer { out.new ≡ written out.old at (start.now ++ (name.now ++ (10 ∷ []))) }
 {
     if out.len() < at {
-        return Written::NoRoom;
+        return None;
     }
     if out.len() - at < start.len() {
-        return Written::NoRoom;
+        return None;
     }
     if out.len() - at - start.len() <= name.len() {
-        return Written::NoRoom;
+        return None;
     }
     let next = ascii::buffer::put(out, at, start);
-    Written::To(words::put_word(out, next, name, 10))
+    Some(words::put_word(out, next, name, 10))
 }
 
 // A column of the layout, and for an index past the array what stands there where there is no column.
@@ -99,7 +98,7 @@ fn column_of(layout: BinTable, c: usize) -> Column
 {
     if TFIELDS_LIMIT <= c {
         let form = TFormType::Items(VariableArrayTy::L);
-        let name = Name::Missing;
+        let name = None;
         return Column {
             form,
             count: 0,
@@ -111,7 +110,7 @@ fn column_of(layout: BinTable, c: usize) -> Column
 }
 
 // The line of a column, with its name as it is shown.
-fn named_line(out: &mut [u8], at: usize, c: usize, column: Column, name: &[u8]) -> Written
+fn named_line(out: &mut [u8], at: usize, c: usize, column: Column, name: &[u8]) -> Option<usize>
     ensures to { result ≡ written_to out.old at
         (line (bytes "column" ∷ decimal_text c ∷ (form_letter column.form ∷ []) ∷ decimal_text column.count
         ∷ bytes "at" ∷ decimal_text column.start ∷ name.now ∷ [])) }
@@ -129,7 +128,13 @@ fn named_line(out: &mut [u8], at: usize, c: usize, column: Column, name: &[u8]) 
     put_named(out, at, &text[..n], name)
 }
 
-pub fn column_line(out: &mut [u8], at: usize, header: &[u8], layout: BinTable, c: usize) -> Written
+pub fn column_line(
+    out: &mut [u8],
+    at: usize,
+    header: &[u8],
+    layout: BinTable,
+    c: usize,
+) -> Option<usize>
     ensures to { result ≡ written_to out.old at (column_line header.now layout c) }
     ensures buffer { out.new ≡ written out.old at (column_line header.now layout c) }
 {

@@ -1,5 +1,6 @@
 -- The lines before the first step, read one by one.
 -- Assumes nothing.
+use Rattle.std.specs.Prelude.{Some, None, Result, Err, Ok}
 use Prim.Native.Nat.{ℕ, suc, ◌+◌, ◌≤◌, ◌<◌}
 use mathlib.Core.Path.{◌≡◌, refl, sym, ◌∙◌}
 use mathlib.Core.Bool.{true, false, cond}
@@ -13,12 +14,9 @@ use Rattle.ascii.proofs.Cases.{either}
 use Rattle.refusal.specs.Refusal as H
 use Rattle.layout.specs.declared.BinTable.{BinTable}
 use Rattle.refusal.specs.declared.Refusal.{Refusal}
-use Rattle.refusal.specs.declared.Check.{Check}
-use Rattle.refusal.specs.declared.Check.TheVariants.{Passed, Refused}
-use Rattle.refusal.specs.Refusal.{number_of, place_of, outcome_of}
-use Rattle.bintable.specs.Entry.{all_checks, entry, layout_in}
+use Rattle.refusal.specs.Refusal.{number_of, place_of}
+use Rattle.bintable.specs.Entry.{accepted, entry}
 use Rattle.walk.specs.declared.TableData.{TableData}
-use Rattle.walk.specs.declared.Opened.{Opened}
 use Rattle.walk.specs.Step.{open_with, opening_of}
 use Rattle.listing.specs.Lines.{refused_line}
 use Rattle.steps.specs.Split.{before, lines_of, line_at, line_feeds}
@@ -29,7 +27,6 @@ use Rattle.output.specs.Cells.{header_of, data_of}
 use Rattle.output.specs.Replay as R
 use Rattle.output.specs.State.{steps_from}
 use Rattle.output.specs.declared.settings.Settings.{Settings}
-use Rattle.output.specs.declared.settings.Change.TheVariants as G
 use Rattle.output.specs.Settings.{columns_in, settings_in, changed, Read, Reading}
 
 -- where no line is left its number does not matter
@@ -69,13 +66,13 @@ record Set (s : List ℕ) (t u : Settings) (y : Says) (n : ℕ) : Type 0 where
   value : settings_in s u ≡ R.set (settings_in s t) y
   place : u.at ≡ t.at + n + 1
 
-to_same : (u v : Settings) → G.To u ≡ G.To v → u ≡ v
+to_same : (u v : Settings) → Some u ≡ Some v → u ≡ v
 to_same u v f = cc
 
-not_over : (A : Type 0) (u : Settings) → G.To u ≡ G.Over → A
+not_over : (A : Type 0) (u : Settings) → Some u ≡ None → A
 not_over A u f = let z : ◌≡◌ {A = ℕ} 0 1 = cc in absurd (omega arith)
 
-set_by : (s : List ℕ) (t u : Settings) (y : Says) (n : ℕ) → says (line_at s t.at) ≡ y → G.To u ≡ changed t (command_of y) n → Set s t u y n
+set_by : (s : List ℕ) (t u : Settings) (y : Says) (n : ℕ) → says (line_at s t.at) ≡ y → Some u ≡ changed t (command_of y) n → Set s t u y n
 set_by s t u choose_all n e f = let q = to_same u _ f in record { setting = refl; value = rw q; place = rw q }
 set_by s t u (choose is) n e f = let q = to_same u _ f in record { setting = refl; value = rw (q, e); place = rw q }
 set_by s t u (heap on) n e f = let q = to_same u _ f in record { setting = refl; value = rw q; place = rw q }
@@ -84,7 +81,7 @@ set_by s t u (row m) n e f = not_over (Set s t u (row m) n) u f
 set_by s t u (S.seek r) n e f = not_over (Set s t u (S.seek r) n) u f
 set_by s t u bad n e f = not_over (Set s t u bad n) u f
 
-over_by : (t : Settings) (y : Says) (n : ℕ) → G.Over ≡ changed t (command_of y) n → R.is_setting y ≡ false
+over_by : (t : Settings) (y : Says) (n : ℕ) → None ≡ changed t (command_of y) n → R.is_setting y ≡ false
 over_by t choose_all n f = cc
 over_by t (choose is) n f = cc
 over_by t (heap on) n f = cc
@@ -96,13 +93,13 @@ over_by t bad n f = refl
 module _ (s : List ℕ) (t : Settings) (r : Reading s t) where
   module _ (h : t.at < length s) (n : ℕ) (e : n ≡ before 10 (drop t.at s)) where
     -- a line that sets something
-    pub reading_next : (u : Settings) → G.To u ≡ changed t (command_of (says (line_at s t.at))) n → Reading s u
+    pub reading_next : (u : Settings) → Some u ≡ changed t (command_of (says (line_at s t.at))) n → Reading s u
     reading_next u f l a =
         let g = set_by s t u (says (line_at s t.at)) n refl f in
         rw (g.value, g.place, e) (sym (next_lines s t.at h l a (settings_in s t) ∙ rw g.setting) ∙ r l a)
 
     -- the first line that is none of them
-    pub reading_over : G.Over ≡ changed t (command_of (says (line_at s t.at))) n → Read s t
+    pub reading_over : None ≡ changed t (command_of (says (line_at s t.at))) n → Read s t
     reading_over f l a = sym (next_lines s t.at h l a (settings_in s t) ∙ rw (over_by t (says (line_at s t.at)) n f)) ∙ r l a
 
   -- the end of the file
@@ -114,22 +111,21 @@ module _ (s : List ℕ) (t : Settings) (r : Reading s t) where
 
 module _ (l : BinTable) (a s : List ℕ) (t : Settings) where
   -- the lines by what it returned
-  abbrev pub first_lines : Check → TableData → List (List ℕ)
-  first_lines Passed d = steps_from l a s t.at d
-  first_lines (Refused q) d = refused_line (number_of q) (place_of q) ∷ []
+  abbrev pub first_lines : Result TableData Refusal → List (List ℕ)
+  first_lines (Ok d) = steps_from l a s t.at d
+  first_lines (Err q) = refused_line (number_of q) (place_of q) ∷ []
 
-  by_check : (x : Check) (d : TableData) → record { outcome = outcome_of x; cursor = d } ≡ open_with l a (columns_in s t.chosen) t.heap
-      → first_lines x d ≡ R.opened l a (settings_in s t) (line_feeds (take t.at s) + 1) (lines_of (drop t.at s))
-  by_check Passed d e = rw (← e)
-  by_check (Refused q) d e = rw (← e)
+  by_opening : (o : Result TableData Refusal) → opening_of o ≡ open_with l a (columns_in s t.chosen) t.heap
+      → first_lines o ≡ R.opened l a (settings_in s t) (line_feeds (take t.at s) + 1) (lines_of (drop t.at s))
+  by_opening (Ok d) e = rw (← e)
+  by_opening (Err q) e = rw (← e)
 
-  pub first_lines_lem : (o : Opened) → Read s t → opening_of o ≡ open_with l a (columns_in s t.chosen) t.heap
-      → first_lines o.check o.cursor ≡ R.setting_lines l a R.defaults 1 (lines_of s)
-  first_lines_lem o r e = by_check o.check o.cursor e ∙ r l a
+  pub first_lines_lem : (o : Result TableData Refusal) → Read s t → opening_of o ≡ open_with l a (columns_in s t.chosen) t.heap
+      → first_lines o ≡ R.setting_lines l a R.defaults 1 (lines_of s)
+  first_lines_lem o r e = by_opening o e ∙ r l a
 
 -- ---- the whole
 
 module _ (f s : List ℕ) (l : BinTable) where
-  pub replay_passed : outcome_of Passed ≡ all_checks (header_of f) (data_of f) → l ≡ layout_in (entry (header_of f) (data_of f))
-      → R.setting_lines l (data_of f) R.defaults 1 (lines_of s) ≡ R.replay_lines f s
-  replay_passed e q = let z = rw (← e) at q in rw (← e, z)
+  pub replay_passed : accepted l ≡ entry (header_of f) (data_of f) → R.setting_lines l (data_of f) R.defaults 1 (lines_of s) ≡ R.replay_lines f s
+  replay_passed e = rw (← e)

@@ -1,5 +1,6 @@
 -- A page filled line by line.
 -- Assumes nothing.
+use Rattle.std.specs.Prelude.{Some, None}
 use Prim.Native.Nat.{ℕ, ◌+◌, ◌-◌, ◌≤◌, ◌<◌}
 use mathlib.Core.Path.{◌≡◌, refl, sym, ◌∙◌}
 use mathlib.Core.List.{List, [], ◌∷◌, ◌++◌, append_assoc, append-nil}
@@ -9,7 +10,6 @@ use lib.ListN.{length, take, drop, take-append-drop}
 use lib.Seq.{length-take-le, drop-drop}
 use borrow.Author.Tests.{le-leb, lt-leb, leb-true, leb-false}
 use Rattle.ascii.proofs.Cases.{either}
-use Rattle.ascii.specs.declared.Written.TheVariants.{To, NoRoom}
 use Rattle.ascii.specs.Buffer.{put_in, written, written_to}
 use Rattle.ascii.proofs.Lengths.{put_length, take_put, drop_put}
 use Rattle.output.specs.Page.{page_text, page_rest}
@@ -21,22 +21,22 @@ pub record Room (out : List ℕ) (at : ℕ) (t : List ℕ) (e : ℕ) : Type 0 wh
   pub end : e ≡ at + length t
   pub buffer : written out at t ≡ put_in out at t
 
-pub written_to_lem : (out : List ℕ) (at : ℕ) (t : List ℕ) (e : ℕ) → To e ≡ written_to out at t → Room out at t e
+pub written_to_lem : (out : List ℕ) (at : ℕ) (t : List ℕ) (e : ℕ) → Some e ≡ written_to out at t → Room out at t e
 unfolding written written_to
 written_to_lem out at t e h =
     either (leb (at + length t) (length out))
-    (λ b. let q : To e ≡ To (at + length t) = rw b at h in record { room = leb-true _ _ b; end = cc; buffer = rw b })
-    (λ b. let q : To e ≡ NoRoom = rw b at h in let z : ◌≡◌ {A = ℕ} 0 1 = cc in absurd (omega arith))
+    (λ b. let q : Some e ≡ Some (at + length t) = rw b at h in record { room = leb-true _ _ b; end = cc; buffer = rw b })
+    (λ b. let q : Some e ≡ None = rw b at h in let z : ◌≡◌ {A = ℕ} 0 1 = cc in absurd (omega arith))
 
 pub record Full (out : List ℕ) (at : ℕ) (t : List ℕ) : Type 0 where
   pub full : length out < at + length t
   pub same : written out at t ≡ out
 
-pub no_room : (out : List ℕ) (at : ℕ) (t : List ℕ) → NoRoom ≡ written_to out at t → Full out at t
+pub no_room : (out : List ℕ) (at : ℕ) (t : List ℕ) → None ≡ written_to out at t → Full out at t
 unfolding written written_to
 no_room out at t h =
     either (leb (at + length t) (length out))
-    (λ b. let q : NoRoom ≡ To (at + length t) = rw b at h in let z : ◌≡◌ {A = ℕ} 0 1 = cc in absurd (omega arith))
+    (λ b. let q : None ≡ Some (at + length t) = rw b at h in let z : ◌≡◌ {A = ℕ} 0 1 = cc in absurd (omega arith))
     (λ b. record { full = leb-false _ _ b; same = rw b })
 
 -- ---- the page so far: its text stands at the front of the buffer, and what is still to come of the page is what there is room for

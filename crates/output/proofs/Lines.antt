@@ -1,5 +1,6 @@
 -- The lines of `replay`, step by step.
 -- Assumes nothing.
+use Rattle.std.specs.Prelude.{Option, Some, None, Result, Ok, Err}
 use Prim.Native.Nat.{ℕ, suc, ◌+◌, ◌≤◌, ◌<◌, min}
 use mathlib.Core.Path.{◌≡◌, refl, ap, ◌∙◌}
 use mathlib.Core.List.{List, [], ◌∷◌, ◌++◌}
@@ -10,17 +11,16 @@ use lib.ListN.{length, take, drop, replicate, get_or, length-append, length-take
 use lib.Seq.{take-nil, get_or-take, drop-cons}
 use borrow.Author.Tests.{ltb-true, ltb-false}
 use Rattle.ascii.proofs.Cases.{either, by_test}
+use Rattle.refusal.specs.declared.Refusal.{Refusal}
 use Rattle.layout.specs.declared.BinTable.{BinTable}
 use Rattle.cell.specs.declared.Cell.{Cell}
 use Rattle.cell.specs.Item.{blank_cell}
 use Rattle.walk.specs.declared.TableData.{TableData}
 use Rattle.walk.specs.declared.Entry.{Entry}
-use Rattle.walk.specs.declared.Answer.{Answer}
-use Rattle.walk.specs.declared.Answer.TheVariants as A
 use Rattle.walk.specs.declared.Stepped.{Stepped}
 use Rattle.walk.specs.Walk.{Step, read_cell, read_row, seek, Gathered, all_cells, outside, rest, row_outcome, walk_step}
 use Rattle.walk.specs.Plain.{row_entries}
-use Rattle.walk.specs.Step.{belongs, state_of, Result, cursor_step, reply_of, result_of}
+use Rattle.walk.specs.Step.{belongs, state_of, StepResult, cursor_step, cell_reply, row_reply, seek_reply, cell_result, row_result, seek_result}
 use Rattle.row.specs.declared.owners.RowCell.{RowCell}
 use Rattle.row.specs.Owned.{own_list, own_read}
 use Rattle.listing.specs.declared.Line.TheVariants as L
@@ -32,10 +32,9 @@ use Rattle.steps.specs.Line.{says, command_of}
 use Rattle.steps.specs.Line as S
 use Rattle.steps.proofs.Lines.{line_length, lines_next, lines_none, feeds_next}
 use Rattle.output.specs.declared.State.TheVariants as T
-use Rattle.output.specs.declared.Next.TheVariants as N
-use Rattle.output.specs.Replay.{Asked, step, none, asked, row_of, answer_lines, result_lines, line_by, step_lines}
+use Rattle.output.specs.Replay.{Asked, step, none, asked, answer_lines, result_lines, line_by, step_lines}
 use Rattle.output.specs.State.{steps_from, stored_by, left, next_lines}
-use Rattle.output.specs.Next.{answer_next, row_next}
+use Rattle.output.specs.Next.{cell_next, seek_next, row_next}
 
 -- ---- lines of the file
 
@@ -46,14 +45,14 @@ feeds_few [] = omega arith
 feeds_few (b ∷ bs) = by_test (λ (n : ℕ). n ≤ suc (length bs)) (eqb b 10) (λ e. omega (arith, feeds_few bs)) (λ e. omega (arith, feeds_few bs))
 
 -- the step that a command is
-abbrev pub asked_of : Command → Asked
-asked_of C.ChooseAll = none
-asked_of C.Choose = none
-asked_of (C.Heap on) = none
-asked_of C.Cell = step read_cell
-asked_of (C.Row n) = step (read_row (replicate n blank_cell))
-asked_of (C.Seek r) = step (seek r)
-asked_of C.Bad = none
+abbrev pub asked_of : Option Command → Asked
+asked_of (Some C.ChooseAll) = none
+asked_of (Some C.Choose) = none
+asked_of (Some (C.Heap on)) = none
+asked_of (Some C.Cell) = step read_cell
+asked_of (Some (C.Row n)) = step (read_row (replicate n blank_cell))
+asked_of (Some (C.Seek r)) = step (seek r)
+asked_of None = none
 
 asked_command : (y : S.Says) → asked y ≡ asked_of (command_of y)
 asked_command S.choose_all = refl
@@ -88,7 +87,7 @@ module _ (l : BinTable) (a s : List ℕ) (at : ℕ) where
       (later c (line_feeds (take at s) + 1) (asked (says (line_at s at))) (step_lines l a (suc (line_feeds (take at s) + 1)) (lines_of (drop after_line s))) (steps_from l a s after_line) (numbered h))
 
   -- the same as the code finds the line
-  pub steps_command : (c : TableData) (t : List ℕ) (y : Command) → at < length s → t ≡ line_at s at → y ≡ command_of (says t)
+  pub steps_command : (c : TableData) (t : List ℕ) (y : Option Command) → at < length s → t ≡ line_at s at → y ≡ command_of (says t)
       → line_by l a c (line_feeds (take at s) + 1) (asked_of y) (steps_from l a s (at + length t + 1)) ≡ steps_from l a s at c
   steps_command c t y h e f =
       let q : y ≡ command_of (says (line_at s at)) = f ∙ rw e in
@@ -109,39 +108,43 @@ cells_next list m k b i =
 -- ---- answers
 
 module _ (h : List ℕ) (l : BinTable) (a s : List ℕ) (at : ℕ) where
-  -- with the answer comes the line after it; the list of a row read stays out of it
-  by_answer : (x : Step) (y : Answer) (d : TableData)
-      → next_lines h l a s (answer_next y (row_of x) at d) ≡ answer_lines x (reply_of y) [] ++ (at_line d ∷ steps_from l a s at d)
-  by_answer x (A.Cell c) d = refl
-  by_answer x (A.Row k) d = rw (take-nil k)
-  by_answer x A.Sought d = refl
-  by_answer x A.End d = refl
-  by_answer x (A.Refused q) d = refl
+  -- a step with no list: with the answer comes the line after it
+  by_cell : (y : Result (Option Cell) Refusal) (d : TableData)
+      → next_lines h l a s (Some (cell_next y at d)) ≡ answer_lines read_cell (cell_reply y) [] ++ (at_line d ∷ steps_from l a s at d)
+  by_cell (Ok (Some c)) d = refl
+  by_cell (Ok None) d = refl
+  by_cell (Err q) d = refl
 
-  -- a step with no list
-  pub answer_next_lem : (c : TableData) (x : Step) (r : Stepped) → result_of r [] ≡ cursor_step l a c x
-      → next_lines h l a s (answer_next r.answer (row_of x) at r.cursor) ≡ result_lines x (cursor_step l a c x) (steps_from l a s at)
-  answer_next_lem c x r e = rw (← e) (by_answer x r.answer r.cursor)
+  pub cell_next_lem : (c : TableData) (r : Stepped (Option Cell)) → cell_result r.cursor r.answer ≡ cursor_step l a c read_cell
+      → next_lines h l a s (Some (cell_next r.answer at r.cursor)) ≡ result_lines read_cell (cursor_step l a c read_cell) (steps_from l a s at)
+  cell_next_lem c r e = rw (← e) (by_cell r.answer r.cursor)
+
+  by_seek : (k : ℕ) (y : Result Unit Refusal) (d : TableData)
+      → next_lines h l a s (Some (seek_next y k at d)) ≡ answer_lines (seek k) (seek_reply y) [] ++ (at_line d ∷ steps_from l a s at d)
+  by_seek k (Ok x) d = refl
+  by_seek k (Err q) d = refl
+
+  pub seek_next_lem : (c : TableData) (k : ℕ) (r : Stepped Unit) → seek_result r.cursor r.answer ≡ cursor_step l a c (seek k)
+      → next_lines h l a s (Some (seek_next r.answer k at r.cursor)) ≡ result_lines (seek k) (cursor_step l a c (seek k)) (steps_from l a s at)
+  seek_next_lem c k r e = rw (← e) (by_seek k r.answer r.cursor)
 
   -- ---- row reads
 
-  by_row : (c : TableData) (n : ℕ) (y : Answer) (d : TableData)
-      → let o = own_read l a c blank_cell n in reply_of y ≡ o.reply → d ≡ o.cursor
-      → next_lines h l a s (row_next y at c n d) ≡ result_lines (read_row (own_list blank_cell n)) o (steps_from l a s at)
-  by_row c n (A.Cell x) d e q = rw (← e, q)
-  by_row c n (A.Row k) d e q = rw (← e)
-  by_row c n A.Sought d e q = rw (← e, q)
-  by_row c n A.End d e q = rw (← e, q)
-  by_row c n (A.Refused x) d e q = rw (← e, q)
+  by_row : (c : TableData) (n : ℕ) (y : Result (Option ℕ) Refusal) (d : TableData)
+      → let o = own_read l a c blank_cell n in row_reply y ≡ o.reply → d ≡ o.cursor
+      → next_lines h l a s (Some (row_next y at c n d)) ≡ result_lines (read_row (own_list blank_cell n)) o (steps_from l a s at)
+  by_row c n (Ok (Some k)) d e q = rw (← e)
+  by_row c n (Ok None) d e q = rw (← e, q)
+  by_row c n (Err x) d e q = rw (← e, q)
 
   -- a row read into a list of n cells
-  pub row_next_lem : (c : TableData) (n : ℕ) (r : Stepped) → n ≤ 512
-      → result_of r (own_read l a c blank_cell n).list ≡ own_read l a c blank_cell n
+  pub row_next_lem : (c : TableData) (n : ℕ) (r : Stepped (Option ℕ)) → n ≤ 512
+      → row_result r.cursor r.answer (own_read l a c blank_cell n).list ≡ own_read l a c blank_cell n
       → let x = read_row (replicate n blank_cell) in
-      next_lines h l a s (row_next r.answer at c n r.cursor) ≡ result_lines x (cursor_step l a c x) (steps_from l a s at)
+      next_lines h l a s (Some (row_next r.answer at c n r.cursor)) ≡ result_lines x (cursor_step l a c x) (steps_from l a s at)
   row_next_lem c n r k e =
       let q : min n 512 ≡ n = omega arith in
-      rw q at (by_row c n r.answer r.cursor (ap (λ (o : Result). o.reply) e) (ap (λ (o : Result). o.cursor) e))
+      rw q at (by_row c n r.answer r.cursor (ap (λ (o : StepResult). o.reply) e) (ap (λ (o : StepResult). o.cursor) e))
 
   -- ---- the cells of a row read
 
@@ -165,24 +168,24 @@ module _ (h : List ℕ) (l : BinTable) (a s : List ℕ) (at : ℕ) where
       (λ f. rw f (omega arith))
 
   module _ (c : TableData) (n k : ℕ) (r : RowCell)
-      (e : result_of r.stepped (own_read l a c blank_cell n).list ≡ own_read l a c blank_cell n) where
+      (e : row_result r.stepped.cursor r.stepped.answer (own_read l a c blank_cell n).list ≡ own_read l a c blank_cell n) where
     -- the next one
     pub listed_next : r.cell ≡ get_or (own_read l a c blank_cell n).list k blank_cell
-        → k < stored_by (reply_of r.stepped.answer)
-        → next_lines h l a s (N.Line (L.Cell r.cell) (T.Listed at c n (k + 1))) ≡ left h l a s (T.Listed at c n k)
+        → k < stored_by (row_reply r.stepped.answer)
+        → next_lines h l a s (Some (record { line = L.Cell r.cell; state = T.Listed at c n (k + 1) })) ≡ left h l a s (T.Listed at c n k)
     listed_next f b =
         let o = own_read l a c blank_cell n in
-        let m : reply_of r.stepped.answer ≡ o.reply = ap (λ (x : Result). x.reply) e in
+        let m : row_reply r.stepped.answer ≡ o.reply = ap (λ (x : StepResult). x.reply) e in
         rw (cells_next o.list (stored_by o.reply) k (rw m at b) (stored_inside c (own_list blank_cell n)), f)
 
     -- after the last one
-    pub listed_over : stored_by (reply_of r.stepped.answer) ≤ k
-        → next_lines h l a s (N.Line (L.At r.stepped.cursor) (T.Step at r.stepped.cursor))
+    pub listed_over : stored_by (row_reply r.stepped.answer) ≤ k
+        → next_lines h l a s (Some (record { line = L.At r.stepped.cursor; state = T.Step at r.stepped.cursor }))
         ≡ left h l a s (T.Listed at c n k)
     listed_over b =
         let o = own_read l a c blank_cell n in
-        let m : reply_of r.stepped.answer ≡ o.reply = ap (λ (x : Result). x.reply) e in
-        let d : r.stepped.cursor ≡ o.cursor = ap (λ (x : Result). x.cursor) e in
+        let m : row_reply r.stepped.answer ≡ o.reply = ap (λ (x : StepResult). x.reply) e in
+        let d : r.stepped.cursor ≡ o.cursor = ap (λ (x : StepResult). x.cursor) e in
         let cells = take (stored_by o.reply) o.list in
         let over : length cells ≤ k = omega (arith, rw m at b, length-take (stored_by o.reply) o.list) in
         rw (drop_of_length-le cells {i = k} over, d)

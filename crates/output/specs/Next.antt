@@ -1,26 +1,37 @@
 -- What the next line is after an answer, as the code has it.
 -- Assumes nothing.
-use Rattle.std.specs.Prelude.{ℕ}
+use Rattle.std.specs.Prelude.{ℕ, Option, Some, None, Result, Ok, Err}
+use Rattle.refusal.specs.declared.Refusal.{Refusal}
+use Rattle.cell.specs.declared.Cell.{Cell}
 use Rattle.walk.specs.declared.TableData.{TableData}
-use Rattle.walk.specs.declared.Answer.{Answer}
-use Rattle.walk.specs.declared.Answer.TheVariants as A
+use Rattle.listing.specs.declared.Line.{Line}
 use Rattle.listing.specs.declared.Line.TheVariants as L
 use Rattle.output.specs.declared.State.TheVariants as S
 use Rattle.output.specs.declared.Next.{Next}
-use Rattle.output.specs.declared.Next.TheVariants as N
 
--- an answer of a step with this row, cursor d and the later steps from place `at` on
-abbrev pub answer_next : Answer → ℕ → ℕ → TableData → Next
-answer_next (A.Cell x) row at d = N.Line (L.Cell x) (S.At at d)
-answer_next (A.Row k) row at d = N.Line (L.Row k) (S.At at d)
-answer_next A.Sought row at d = N.Line (L.Seek row) (S.At at d)
-answer_next A.End row at d = N.Line L.AtEnd (S.At at d)
-answer_next (A.Refused q) row at d = N.Line (L.Refused q) (S.At at d)
+-- the line of a cell read of `cells`, with the cursor d after it
+abbrev pub cells_next : Result (Option Cell) Refusal → TableData → Next
+cells_next (Ok (Some x)) d = record { line = L.Cell x; state = S.Cells d }
+cells_next (Ok None) d = record { line = L.End d.count; state = S.Done }
+cells_next (Err q) d = record { line = L.Refused q; state = S.Done }
 
--- an answer of a row read by cursor c into a list of n cells: after the count come the cells of the list
-abbrev pub row_next : Answer → ℕ → TableData → ℕ → TableData → Next
-row_next (A.Row k) at c n d = N.Line (L.Row k) (S.Listed at c n 0)
-row_next (A.Cell x) at c n d = answer_next (A.Cell x) 0 at d
-row_next A.Sought at c n d = answer_next A.Sought 0 at d
-row_next A.End at c n d = answer_next A.End 0 at d
-row_next (A.Refused q) at c n d = answer_next (A.Refused q) 0 at d
+-- of `replay`: the line of a step's answer, with cursor d and the later steps from place `at` on
+abbrev pub answered : Line → ℕ → TableData → Next
+answered x at d = record { line = x; state = S.At at d }
+
+-- the line of a cell read
+abbrev pub cell_next : Result (Option Cell) Refusal → ℕ → TableData → Next
+cell_next (Ok (Some x)) at d = answered (L.Cell x) at d
+cell_next (Ok None) at d = answered L.AtEnd at d
+cell_next (Err q) at d = answered (L.Refused q) at d
+
+-- that of a seek of this row
+abbrev pub seek_next : Result Unit Refusal → ℕ → ℕ → TableData → Next
+seek_next (Ok x) row at d = answered (L.Seek row) at d
+seek_next (Err q) row at d = answered (L.Refused q) at d
+
+-- that of a row read by cursor c into a list of n cells: after the count come the cells of the list
+abbrev pub row_next : Result (Option ℕ) Refusal → ℕ → TableData → ℕ → TableData → Next
+row_next (Ok (Some k)) at c n d = record { line = L.Row k; state = S.Listed at c n 0 }
+row_next (Ok None) at c n d = answered L.AtEnd at d
+row_next (Err q) at c n d = answered (L.Refused q) at d

@@ -8,7 +8,7 @@ use Rattle.cell.specs.declared.Cell.{Cell}
 use Rattle.cell.specs.Item.{blank_cell}
 use Rattle.walk.specs.declared.TableData.{TableData}
 use Rattle.walk.specs.Walk.{Step, read_cell, read_row, seek, Reply, got_cell, got_row, sought, at_end, refused}
-use Rattle.walk.specs.Step.{Selection, all_columns, listed, Opening, open_with, Result, cursor_step}
+use Rattle.walk.specs.Step.{Selection, all_columns, listed, Opening, open_with, StepResult, cursor_step}
 use Rattle.listing.specs.Lines.{cell_line, refused_line, row_line, seek_line, at_end_line, at_line, bad_line}
 use Rattle.steps.specs.Split.{lines_of}
 use Rattle.steps.specs.Line.{Says, says, choose_all, choose, heap, cell, row, bad}
@@ -47,7 +47,7 @@ answer_lines x (refused n p) list = refused_line n p ∷ []
 
 -- the lines of a step: those of its answer, then, after refusals and ends too, the cursor's place and count; and those that come later, from the cursor
 -- that the step returned
-abbrev pub result_lines : Step → Result → (TableData → List (List ℕ)) → List (List ℕ)
+abbrev pub result_lines : Step → StepResult → (TableData → List (List ℕ)) → List (List ℕ)
 result_lines x o later = answer_lines x o.reply o.list ++ (at_line o.cursor ∷ later o.cursor)
 
 -- those of line n: a line that says no step is a bad line, and nothing comes after it

@@ -1,6 +1,6 @@
 -- The settings as the private functions keep them, and what they stand for (FORMAT.md, section 17).
 -- Assumes nothing.
-use Rattle.std.specs.Prelude.{ℕ, ◌+◌, ◌≡◌, List, take, drop}
+use Rattle.std.specs.Prelude.{ℕ, ◌+◌, ◌≡◌, List, take, drop, Option, Some, None}
 use Rattle.layout.specs.declared.BinTable.{BinTable}
 use Rattle.walk.specs.Step.{Selection, all_columns, listed}
 use Rattle.steps.specs.declared.Command.{Command}
@@ -11,8 +11,6 @@ use Rattle.output.specs.Replay as R
 use Rattle.output.specs.declared.settings.Chosen.{Chosen}
 use Rattle.output.specs.declared.settings.Chosen.TheVariants as H
 use Rattle.output.specs.declared.settings.Settings.{Settings}
-use Rattle.output.specs.declared.settings.Change.{Change}
-use Rattle.output.specs.declared.settings.Change.TheVariants as G
 
 -- the columns: all, or those of the line that begins at a place of the steps s
 abbrev pub columns_in : List ℕ → Chosen → Selection
@@ -23,14 +21,14 @@ abbrev pub settings_in : List ℕ → Settings → R.Settings
 settings_in s t = record { columns = columns_in s t.chosen; heap = t.heap }
 
 -- what a command changes, of a line that is n bytes long
-abbrev pub changed : Settings → Command → ℕ → Change
-changed t C.ChooseAll n = G.To (record { chosen = H.All; heap = t.heap; at = t.at + n + 1 })
-changed t C.Choose n = G.To (record { chosen = H.LineAt t.at; heap = t.heap; at = t.at + n + 1 })
-changed t (C.Heap on) n = G.To (record { chosen = t.chosen; heap = on; at = t.at + n + 1 })
-changed t C.Cell n = G.Over
-changed t (C.Row m) n = G.Over
-changed t (C.Seek r) n = G.Over
-changed t C.Bad n = G.Over
+abbrev pub changed : Settings → Option Command → ℕ → Option Settings
+changed t (Some C.ChooseAll) n = Some (record { chosen = H.All; heap = t.heap; at = t.at + n + 1 })
+changed t (Some C.Choose) n = Some (record { chosen = H.LineAt t.at; heap = t.heap; at = t.at + n + 1 })
+changed t (Some (C.Heap on)) n = Some (record { chosen = t.chosen; heap = on; at = t.at + n + 1 })
+changed t (Some C.Cell) n = None
+changed t (Some (C.Row m)) n = None
+changed t (Some (C.Seek r)) n = None
+changed t None n = None
 
 -- the settings t of the steps s, with the place after their lines, stand for the lines before the first step, whatever the table
 abbrev pub Read : List ℕ → Settings → Type 0

@@ -1,20 +1,19 @@
 -- What is left to print in each state of the two programs.
 -- Assumes nothing.
-use Rattle.std.specs.Prelude.{ℕ, ◌+◌, ◌-◌, cond, List, [], ◌∷◌, ◌++◌, map, take, drop}
+use Rattle.std.specs.Prelude.{ℕ, ◌+◌, ◌-◌, cond, List, [], ◌∷◌, ◌++◌, map, take, drop, Option, Some, None}
 use Rattle.layout.specs.declared.BinTable.{BinTable}
 use Rattle.refusal.specs.Refusal.{number_of, place_of}
 use Rattle.bintable.specs.Entry as B
 use Rattle.cell.specs.Item.{blank_cell}
 use Rattle.walk.specs.declared.TableData.{TableData}
 use Rattle.walk.specs.Walk.{Reply, got_cell, got_row, sought, at_end, refused}
-use Rattle.walk.specs.Step.{belongs, cursor_left, Result}
+use Rattle.walk.specs.Step.{belongs, cursor_left, StepResult}
 use Rattle.row.specs.Owned.{own_read}
 use Rattle.listing.specs.Lines.{cell_line, refused_line, at_line, line_text}
 use Rattle.steps.specs.Split.{lines_of, line_feeds}
 use Rattle.output.specs.declared.State.{State}
 use Rattle.output.specs.declared.State.TheVariants as S
 use Rattle.output.specs.declared.Next.{Next}
-use Rattle.output.specs.declared.Next.TheVariants as N
 use Rattle.output.specs.Cells.{header_of, data_of, entry_lines, column_lines, after_columns, entry_output}
 use Rattle.output.specs.Replay.{step_lines}
 
@@ -31,7 +30,7 @@ stored_by at_end = 0
 stored_by (refused n p) = 0
 
 -- those from cell k on, as lines, and what comes after them
-abbrev pub listed_from : ℕ → Result → (TableData → List (List ℕ)) → List (List ℕ)
+abbrev pub listed_from : ℕ → StepResult → (TableData → List (List ℕ)) → List (List ℕ)
 listed_from k o later =
     map cell_line (drop k (take (stored_by o.reply) o.list)) ++ (at_line o.cursor ∷ later o.cursor)
 
@@ -48,9 +47,9 @@ module _ (h : List ℕ) (l : BinTable) (a s : List ℕ) where
   left S.Done = []
 
   -- the line that is next, and what is left after it
-  abbrev pub next_lines : Next → List (List ℕ)
-  next_lines (N.Line x t) = line_text h l x ∷ left t
-  next_lines N.Nothing = []
+  abbrev pub next_lines : Option Next → List (List ℕ)
+  next_lines (Some n) = line_text h l n.line ∷ left n.state
+  next_lines None = []
 
 -- what is left to print of a file
 abbrev pub file_left : List ℕ → BinTable → List ℕ → State → List (List ℕ)

@@ -7,18 +7,17 @@ mod replay;
 mod settings;
 
 ghost use Rattle.std.specs.Prelude.{◌≡◌, ◌+◌, [], length, take};
-ghost use Rattle.refusal.specs.Refusal.{outcome_of};
-ghost use Rattle.bintable.specs.Entry.{all_checks, entry, layout_in};
+ghost use Rattle.layout.specs.Layout.{empty_layout};
+ghost use Rattle.bintable.specs.Entry.{entry, entry_of, layout_in};
 ghost use Rattle.ascii.specs.Buffer.{put_in};
 ghost use Rattle.output.specs.Cells.{file_limit, header_of, data_of, cells_lines};
 ghost use Rattle.output.specs.Replay.{replay_lines};
 ghost use Rattle.output.specs.State.{left, next_lines, file_left};
 ghost use Rattle.output.specs.Page.{page_text, page_rest, Whole};
 
-use bintable::Parsed;
-use layout::BinTable;
+use layout::{BinTable, EMPTY_LAYOUT};
 use listing::Line;
-use refusal::{Check, Refusal};
+use refusal::Refusal;
 use walk::TableData;
 
 // How many bytes of a file are looked at.
@@ -55,11 +54,11 @@ pub enum State {
     Done,
 }
 
-// The next line and the state after it, or nothing more.
+// The next line and the state after it.
 #[derive(Clone, Copy)]
-enum Next {
-    Line { line: Line, state: State },
-    Nothing,
+struct Next {
+    line: Line,
+    state: State,
 }
 
 // A page: how long its text is, and the state after it.
@@ -76,30 +75,36 @@ pub struct Start {
     pub state: State,
 }
 
-// The next line. The header is that of the layout; only the text of a column's line speaks of it.
-fn next_line(header: &[u8], layout: BinTable, area: &[u8], steps: &[u8], state: State) -> Next
+// The next line, none where nothing is left. The header is that of the layout; only the text of a column's line speaks of it.
+fn next_line(
+    header: &[u8],
+    layout: BinTable,
+    area: &[u8],
+    steps: &[u8],
+    state: State,
+) -> Option<Next>
     ensures { next_lines header.now layout area.now steps.now result ≡ left header.now layout area.now steps.now state }
 {
     match state {
-        State::Table => Next::Line {
+        State::Table => Some(Next {
             line: Line::Table,
             state: State::Column(0),
-        },
-        State::Column(c) => cells::next_column(header, layout, area, steps, c),
-        State::Cells(cursor) => cells::next_cell(header, layout, area, steps, cursor),
-        State::Step { at, cursor } => { replay::next_step(header, layout, area, steps, at, cursor) }
-        State::At { at, cursor } => Next::Line {
+        }),
+        State::Column(c) => Some(cells::next_column(header, layout, area, steps, c)),
+        State::Cells(cursor) => Some(cells::next_cell(header, layout, area, steps, cursor)),
+        State::Step { at, cursor } => replay::next_step(header, layout, area, steps, at, cursor),
+        State::At { at, cursor } => Some(Next {
             line: Line::At(cursor),
             state: State::Step { at, cursor },
-        },
+        }),
         State::Listed { at, reader, len, k } => {
-            replay::next_listed(header, layout, area, steps, at, reader, len, k)
+            Some(replay::next_listed(header, layout, area, steps, at, reader, len, k))
         }
-        State::Refused(refusal) => Next::Line {
+        State::Refused(refusal) => Some(Next {
             line: Line::Refused(refusal),
             state: State::Done,
-        },
-        State::Done => Next::Nothing,
+        }),
+        State::Done => None,
     }
 }
 
@@ -128,12 +133,22 @@ pub fn first_bytes(file: &[u8]) -> &[u8]
 }
 
 // The entry of a file: its header through the block that has END, and the data after it.
-pub fn parse_file(file: &[u8]) -> Parsed
-    ensures check { outcome_of result.check ≡ all_checks (header_of file.now) (data_of file.now) }
-    ensures layout { result.layout ≡ layout_in (entry (header_of file.now) (data_of file.now)) }
+pub fn parse_file(file: &[u8]) -> Result<BinTable, Refusal>
+    ensures { entry_of result ≡ entry (header_of file.now) (data_of file.now) }
 {
     let len = header::header_len(file);
     bintable::parse(&file[..len], &file[len..])
+}
+
+// The start of a file that is refused: the layout is the empty one.
+fn refused(refusal: Refusal) -> Start
+    ensures layout { result.layout ≡ empty_layout }
+    ensures state { result.state ≡ State.Refused refusal }
+{
+    Start {
+        layout: EMPTY_LAYOUT,
+        state: State::Refused(refusal),
+    }
 }
 
 // The layout of a file's table, and the state in which `cells` starts.
@@ -141,18 +156,12 @@ pub fn cells_start(file: &[u8]) -> Start
     ensures layout { result.layout ≡ layout_in (entry (header_of file.now) (data_of file.now)) }
     ensures lines { file_left file.now result.layout [] result.state ≡ cells_lines file.now }
 {
-    let parsed = parse_file(file);
-    let check = parsed.check;
-    let layout = parsed.layout;
-    match check {
-        Check::Refused(refusal) => Start {
-            layout,
-            state: State::Refused(refusal),
-        },
-        Check::Passed => Start {
+    match parse_file(file) {
+        Ok(layout) => Start {
             layout,
             state: State::Table,
         },
+        Err(refusal) => refused(refusal),
     }
 }
 
@@ -163,15 +172,14 @@ pub fn replay_start(file: &[u8], steps: &[u8]) -> Start
         ≡ replay_lines file.now (take file_limit steps.now) }
 {
     let parsed = parse_file(file);
-    let check = parsed.check;
-    let layout = parsed.layout;
-    if let Check::Refused(refusal) = check {
-        let state = State::Refused(refusal);
-        return Start { layout, state };
+    match parsed {
+        Ok(layout) => {
+            let len = header::header_len(file);
+            let state = settings::first_step(layout, &file[len..], first_bytes(steps));
+            Start { layout, state }
+        }
+        Err(refusal) => refused(refusal),
     }
-    let len = header::header_len(file);
-    let state = settings::first_step(layout, &file[len..], first_bytes(steps));
-    Start { layout, state }
 }
 
 // The first page of the lines that `replay` prints: as many whole lines as the buffer has room for, the rest of it

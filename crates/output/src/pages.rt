@@ -5,7 +5,6 @@ ghost use Rattle.output.specs.State.{left};
 ghost use Rattle.output.specs.Page.{page_text, page_rest, Whole};
 
 use crate::{Next, Page, State};
-use ascii::Written;
 use layout::BinTable;
 
 pub fn fill_page(
@@ -28,14 +27,14 @@ pub fn fill_page(
     let mut current = state;
     loop {
         let next = crate::next_line(header, layout, area, steps, current);
-        let Next::Line { line, state: after } = next else {
+        let Some(Next { line, state: after }) = next else {
             return Page {
                 len,
                 state: current,
             };
         };
         let written = listing::put_line(out, len, header, layout, line);
-        let Written::To(end) = written else {
+        let Some(end) = written else {
             return Page {
                 len,
                 state: current,

@@ -1,51 +1,63 @@
 // The lines of `replay` from the first step on.
 ghost use Rattle.std.specs.Prelude.{◌≡◌, ◌+◌, ◌≤◌, length, take};
-ghost use Rattle.walk.specs.Step.{reply_of};
+ghost use Rattle.walk.specs.Step.{row_reply};
 ghost use Rattle.steps.specs.Split.{line_feeds};
 ghost use Rattle.output.specs.State.{stored_by, left, next_lines};
-ghost use Rattle.output.specs.Next.{answer_next, row_next};
+ghost use Rattle.output.specs.Next.{answered, cell_next, seek_next, row_next};
 
 use crate::{Next, State};
+use cell::Cell;
 use layout::BinTable;
 use listing::Line;
+use refusal::Refusal;
 use steps::Command;
-use walk::{Answer, TableData};
+use walk::{Stepped, TableData};
 
-// The line of an answer, and that the cursor's place and count come after it.
-fn answered(answer: Answer, row: usize, at: usize, cursor: TableData) -> Next
-    ensures { result ≡ answer_next answer row at cursor }
+// The line of a step's answer, and that the cursor's place and count come after it.
+fn answered(line: Line, at: usize, cursor: TableData) -> Next
+    ensures { result ≡ answered line at cursor }
 {
-    let state = State::At { at, cursor };
-    match answer {
-        Answer::Cell(cell) => Next::Line {
-            line: Line::Cell(cell),
-            state,
-        },
-        Answer::Row(cells) => Next::Line {
-            line: Line::Row(cells),
-            state,
-        },
-        Answer::Sought => Next::Line {
-            line: Line::Seek(row),
-            state,
-        },
-        Answer::End => Next::Line {
-            line: Line::AtEnd,
-            state,
-        },
-        Answer::Refused(refusal) => Next::Line {
-            line: Line::Refused(refusal),
-            state,
-        },
+    Next {
+        line,
+        state: State::At { at, cursor },
     }
 }
 
+// The line of a cell read's answer.
+fn cell_answered(answer: Result<Option<Cell>, Refusal>, at: usize, cursor: TableData) -> Next
+    ensures { result ≡ cell_next answer at cursor }
+{
+    let line = match answer {
+        Ok(Some(cell)) => Line::Cell(cell),
+        Ok(None) => Line::AtEnd,
+        Err(refusal) => Line::Refused(refusal),
+    };
+    answered(line, at, cursor)
+}
+
+// The line of a seek's answer.
+fn seek_answered(answer: Result<(), Refusal>, row: usize, at: usize, cursor: TableData) -> Next
+    ensures { result ≡ seek_next answer row at cursor }
+{
+    let line = match answer {
+        Ok(()) => Line::Seek(row),
+        Err(refusal) => Line::Refused(refusal),
+    };
+    answered(line, at, cursor)
+}
+
 // The line of a row read's answer: the cells of its list come after it.
-fn row_answered(answer: Answer, at: usize, reader: TableData, len: usize, cursor: TableData) -> Next
+fn row_answered(
+    answer: Result<Option<u64>, Refusal>,
+    at: usize,
+    reader: TableData,
+    len: usize,
+    cursor: TableData,
+) -> Next
     ensures { result ≡ row_next answer at reader len cursor }
 {
     match answer {
-        Answer::Row(cells) => Next::Line {
+        Ok(Some(cells)) => Next {
             line: Line::Row(cells),
             state: State::Listed {
                 at,
@@ -54,25 +66,23 @@ fn row_answered(answer: Answer, at: usize, reader: TableData, len: usize, cursor
                 k: 0,
             },
         },
-        Answer::Cell(_) => answered(answer, 0, at, cursor),
-        Answer::Sought => answered(answer, 0, at, cursor),
-        Answer::End => answered(answer, 0, at, cursor),
-        Answer::Refused(_) => answered(answer, 0, at, cursor),
+        Ok(None) => answered(Line::AtEnd, at, cursor),
+        Err(refusal) => answered(Line::Refused(refusal), at, cursor),
     }
 }
 
 // The line at a place of the steps says no step.
 fn bad_line(steps: &[u8], at: usize) -> Next
     requires { at ≤ length steps.now }
-    ensures { result ≡ Next.Line (Line.BadLine (line_feeds (take at steps.now) + 1)) State.Done }
+    ensures { result ≡ record { line = Line.BadLine (line_feeds (take at steps.now) + 1); state = State.Done } }
 {
-    Next::Line {
+    Next {
         line: Line::BadLine(steps::line_feeds(&steps[..at]) + 1),
         state: State::Done,
     }
 }
 
-// The line at a place of the steps, and the step that it says.
+// The line at a place of the steps, and the step that it says; none at the end of the steps.
 pub fn next_step(
     header: &[u8],
     layout: BinTable,
@@ -80,53 +90,44 @@ pub fn next_step(
     steps: &[u8],
     at: usize,
     cursor: TableData,
-) -> Next
+) -> Option<Next>
     ensures { next_lines header.now layout area.now steps.now result
         ≡ left header.now layout area.now steps.now (State.Step at cursor) }
 {
     if steps.len() <= at {
-        return Next::Nothing;
+        return None;
     }
     let line = steps::line_at(steps, at);
-    let command = steps::parse_command(line);
     let after = at + line.len() + 1;
-    match command {
+    let Some(command) = steps::parse_command(line) else {
+        return Some(bad_line(steps, at));
+    };
+    let next = match command {
         Command::Cell => {
             let stepped = table::next(layout, area, cursor);
-            let answer = stepped.answer;
-            let moved = stepped.cursor;
-            answered(answer, 0, after, moved)
+            cell_answered(stepped.answer, after, stepped.cursor)
         }
         Command::Row(n) => {
             let read = row::owners::row_cell(layout, area, cursor, cell::blank_cell(), n, 0);
             let stepped = read.stepped;
-            let answer = stepped.answer;
-            let moved = stepped.cursor;
-            row_answered(answer, after, cursor, n, moved)
+            row_answered(stepped.answer, after, cursor, n, stepped.cursor)
         }
         Command::Seek(row) => {
             let stepped = table::seek_to_row(layout, area, cursor, row);
-            let answer = stepped.answer;
-            let moved = stepped.cursor;
-            answered(answer, row, after, moved)
+            seek_answered(stepped.answer, row, after, stepped.cursor)
         }
-        Command::ChooseAll => bad_line(steps, at),
-        Command::Choose => bad_line(steps, at),
-        Command::Heap(_) => bad_line(steps, at),
-        Command::Bad => bad_line(steps, at),
-    }
+        Command::ChooseAll | Command::Choose | Command::Heap(_) => bad_line(steps, at),
+    };
+    Some(next)
 }
 
 // How many cells a row read stored, by its answer.
-fn stored(answer: Answer) -> u64
-    ensures { result ≡ stored_by (reply_of answer) }
+fn stored(answer: Result<Option<u64>, Refusal>) -> u64
+    ensures { result ≡ stored_by (row_reply answer) }
 {
     match answer {
-        Answer::Row(cells) => cells,
-        Answer::Cell(_) => 0,
-        Answer::Sought => 0,
-        Answer::End => 0,
-        Answer::Refused(_) => 0,
+        Ok(Some(cells)) => cells,
+        Ok(None) | Err(_) => 0,
     }
 }
 
@@ -142,16 +143,15 @@ pub fn next_listed(
     len: usize,
     k: usize,
 ) -> Next
-    ensures { next_lines header.now layout area.now steps.now result
+    ensures { next_lines header.now layout area.now steps.now (Some result)
         ≡ left header.now layout area.now steps.now (State.Listed at reader len k) }
 {
     let read = row::owners::row_cell(layout, area, reader, cell::blank_cell(), len, k);
     let stepped = read.stepped;
-    let answer = stepped.answer;
     let cursor = stepped.cursor;
-    if (k as u64) < stored(answer) {
+    if (k as u64) < stored(stepped.answer) {
         let cell = read.cell;
-        return Next::Line {
+        return Next {
             line: Line::Cell(cell),
             state: State::Listed {
                 at,
@@ -161,7 +161,7 @@ pub fn next_listed(
             },
         };
     }
-    Next::Line {
+    Next {
         line: Line::At(cursor),
         state: State::Step { at, cursor },
     }

@@ -8,9 +8,9 @@ ghost use Rattle.output.specs.Settings.{columns_in, changed, Read};
 
 use crate::State;
 use layout::{BinTable, TFIELDS_LIMIT};
-use refusal::Check;
+use refusal::Refusal;
 use steps::Command;
-use walk::Opened;
+use walk::TableData;
 
 // All columns, or those of the `choose` line that begins at this place of the steps.
 #[derive(Clone, Copy)]
@@ -27,42 +27,23 @@ pub struct Settings {
     pub at: usize,
 }
 
-// What a line changes: the settings after it, or nothing, because the lines are over.
-#[derive(Clone, Copy)]
-pub enum Change {
-    To(Settings),
-    Over,
-}
-
-// A command of a line that is n bytes long.
-fn after_command(settings: Settings, command: Command, n: usize) -> Change
+// A command of a line that is n bytes long: the settings after it, none where it is a step or no command, since the lines
+// before the first step are over.
+fn after_command(settings: Settings, command: Option<Command>, n: usize) -> Option<Settings>
     requires { settings.at + n + 1 < 2 ^ 64 }
     ensures { result ≡ changed settings command n }
 {
-    let at = settings.at;
-    let chosen = settings.chosen;
-    let heap = settings.heap;
-    match command {
-        Command::ChooseAll => Change::To(Settings {
-            chosen: Chosen::All,
-            heap,
-            at: at + n + 1,
-        }),
-        Command::Choose => Change::To(Settings {
-            chosen: Chosen::LineAt(at),
-            heap,
-            at: at + n + 1,
-        }),
-        Command::Heap(on) => Change::To(Settings {
-            chosen,
-            heap: on,
-            at: at + n + 1,
-        }),
-        Command::Cell => Change::Over,
-        Command::Row(_) => Change::Over,
-        Command::Seek(_) => Change::Over,
-        Command::Bad => Change::Over,
-    }
+    let (chosen, heap) = match command? {
+        Command::ChooseAll => (Chosen::All, settings.heap),
+        Command::Choose => (Chosen::LineAt(settings.at), settings.heap),
+        Command::Heap(on) => (settings.chosen, on),
+        Command::Cell | Command::Row(_) | Command::Seek(_) => return None,
+    };
+    Some(Settings {
+        chosen,
+        heap,
+        at: settings.at + n + 1,
+    })
 }
 
 // Reads the lines before the first step.
@@ -78,7 +59,7 @@ fn read_settings(steps: &[u8]) -> Settings
         let at = settings.at;
         let line = steps::line_at(steps, at);
         let changed = after_command(settings, steps::parse_command(line), line.len());
-        let Change::To(next) = changed else {
+        let Some(next) = changed else {
             return settings;
         };
         settings = next;
@@ -87,7 +68,13 @@ fn read_settings(steps: &[u8]) -> Settings
 }
 
 // The opening with what the lines set.
-fn open(layout: BinTable, area: &[u8], steps: &[u8], chosen: Chosen, heap: bool) -> Opened
+fn open(
+    layout: BinTable,
+    area: &[u8],
+    steps: &[u8],
+    chosen: Chosen,
+    heap: bool,
+) -> Result<TableData, Refusal>
     ensures { opening_of result ≡ open_with layout area.now (columns_in steps.now chosen) heap }
 {
     match chosen {
@@ -108,14 +95,11 @@ pub fn first_step(layout: BinTable, area: &[u8], steps: &[u8]) -> State
 {
     let settings = read_settings(steps);
     let chosen = settings.chosen;
-    let opened = open(layout, area, steps, chosen, settings.heap);
-    let check = opened.check;
-    let cursor = opened.cursor;
-    match check {
-        Check::Refused(refusal) => State::Refused(refusal),
-        Check::Passed => State::Step {
+    match open(layout, area, steps, chosen, settings.heap) {
+        Ok(cursor) => State::Step {
             at: settings.at,
             cursor,
         },
+        Err(refusal) => State::Refused(refusal),
     }
 }

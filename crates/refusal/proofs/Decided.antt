@@ -1,13 +1,12 @@
 -- The number and the place of a refusal decide its case, so that a contract that gives the outcome gives the answer.
 -- Assumes nothing.
+use Rattle.std.specs.Prelude.{Result, Err, Ok}
 use Prim.Native.Nat.{ℕ, ◌-◌}
 use mathlib.Core.Path.{◌≡◌, refl, sym, ◌∙◌, ap}
 use mathlib.Core.List.{List, [], ◌∷◌}
 use lib.ListN.{get_or}
 use Rattle.refusal.specs.declared.Refusal.{Refusal}
 use Rattle.refusal.specs.declared.Refusal.TheVariants as R
-use Rattle.refusal.specs.declared.Check.{Check}
-use Rattle.refusal.specs.declared.Check.TheVariants.{Passed, Refused}
 use Rattle.refusal.specs.Refusal.{Outcome, accepted, refused, number_of, place_of, outcome_of}
 
 -- the causes by their numbers, with a place
@@ -33,13 +32,13 @@ cause (R.ArrayOutsideHeap c) = refl
 cause (R.ShortList n) = refl
 
 -- the check that an outcome is
-abbrev pub check_of : Outcome → Check
-check_of accepted = Passed
-check_of (refused n p) = Refused (get_or (causes p) (n - 1) R.BadLength)
+abbrev pub check_of : Outcome → Result Unit Refusal
+check_of accepted = Ok tt
+check_of (refused n p) = Err (get_or (causes p) (n - 1) R.BadLength)
 
-pub check_back : (c : Check) → check_of (outcome_of c) ≡ c
-check_back Passed = refl
-check_back (Refused r) = ap Refused (cause r)
+pub check_back : (c : Result Unit Refusal) → check_of (outcome_of c) ≡ c
+check_back (Ok tt) = refl
+check_back (Err r) = ap Err (cause r)
 
-pub outcome_decides : (a b : Check) → outcome_of a ≡ outcome_of b → a ≡ b
+pub outcome_decides : (a b : Result Unit Refusal) → outcome_of a ≡ outcome_of b → a ≡ b
 outcome_decides a b e = sym (check_back a) ∙ ap check_of e ∙ check_back b

@@ -1,10 +1,8 @@
 -- The refusals (FORMAT.md, section 10): what a check comes to, and the number and the place of each cause.
 -- Assumes nothing.
-use Rattle.std.specs.Prelude.{ℕ}
+use Rattle.std.specs.Prelude.{ℕ, Result, Err, Ok}
 use Rattle.refusal.specs.declared.Refusal.{Refusal}
 use Rattle.refusal.specs.declared.Refusal.TheVariants as R
-use Rattle.refusal.specs.declared.Check.{Check}
-use Rattle.refusal.specs.declared.Check.TheVariants.{Passed, Refused}
 
 -- what a check, or all of them, come to: nothing to refuse, or a refusal's number and place
 pub data Outcome : Type 0 where
@@ -48,7 +46,7 @@ place_of (R.NoSuchRow r) = r
 place_of (R.ArrayOutsideHeap c) = c
 place_of (R.ShortList n) = n
 
--- the outcome that the code's answer is
-abbrev pub outcome_of : Check → Outcome
-outcome_of Passed = accepted
-outcome_of (Refused r) = refused (number_of r) (place_of r)
+-- the outcome that the code's answer is, whatever it returns where nothing is refused
+abbrev pub outcome_of : {A : Type 0} → Result A Refusal → Outcome
+outcome_of (Ok x) = accepted
+outcome_of (Err r) = refused (number_of r) (place_of r)

@@ -26,13 +26,6 @@ pub enum Refusal {
     ShortList { cells: u64 },
 }
 
-// What a check comes to.
-#[derive(Clone, Copy)]
-pub enum Check {
-    Passed,
-    Refused(Refusal),
-}
-
 // The number of a refusal.
 pub fn number(refusal: Refusal) -> u64
     ensures { result ≡ number_of refusal }

@@ -1,6 +1,7 @@
 -- The entries of a row, field by field, are what the plans of its fields give: a field's cells are those of its plan, and an array outside the heap is
 -- found at the first entry that is left of it.
 -- Assumes nothing.
+use Rattle.std.specs.Prelude.{Option}
 use Prim.Native.Nat.{ℕ, zero, suc, ◌+◌, ◌-◌, ◌*◌}
 use mathlib.Core.Path.{◌≡◌, refl, sym, ap, ◌∙◌}
 use mathlib.Core.Bool.{Bool, true, false, cond}
@@ -173,7 +174,7 @@ field_n r c column kind p skip F.OutsideHeap = refl
 
 -- ---- and of a column
 
-module _ (l : BinTable) (a : List ℕ) (c : TableData) (s : Stepped) where
+module _ (l : BinTable) (a : List ℕ) (c : TableData) (s : Stepped (Option ℕ)) where
   -- the plan of column k, where `skip` entries are still to be passed
   abbrev pub field_on : ℕ → ℕ → FieldPlan
   field_on k skip = plan_at l.columns a (plan_for l c s) k skip

@@ -1,5 +1,6 @@
 -- What is left of a row, column by column: the cells counted so far and what the columns from one on give are what is left of the row.
 -- Assumes nothing.
+use Rattle.std.specs.Prelude.{Option, Result, Ok, Err}
 use Prim.Native.Nat.{ℕ, suc, ◌+◌, ◌-◌, ◌≤◌, ◌<◌}
 use mathlib.Core.Path.{◌≡◌, refl, sym, ap, ◌∙◌}
 use mathlib.Core.Bool.{true, false}
@@ -19,22 +20,22 @@ use Rattle.walk.proofs.Laws.{from, from_row, from_end, length_from}
 use Rattle.table.specs.Scan.{next_chosen}
 use Rattle.table.proofs.ToNext.{next_from_lem}
 use Rattle.row.specs.declared.plan.RowPlan.{RowPlan}
-use Rattle.row.specs.declared.plan.Rest.{Rest}
-use Rattle.row.specs.declared.plan.Rest.TheVariants as L
+use Rattle.refusal.specs.declared.Refusal.{Refusal}
+use Rattle.refusal.specs.declared.Refusal.TheVariants as R
 use Rattle.row.specs.Plan.{is_outside, planned_cell, left_of, plan_for}
 use Rattle.row.proofs.Fields.{cells_from, cells_before, before_all, field_on, gather_by, plan_n, column_gathered}
 
 -- what is left, with n cells before
-abbrev pub after : ℕ → Gathered → Rest
-after n (all_cells cs) = L.Cells (n + length cs)
-after n (outside k) = L.OutsideHeap k
+abbrev pub after : ℕ → Gathered → Result ℕ Refusal
+after n (all_cells cs) = Ok (n + length cs)
+after n (outside k) = Err (R.ArrayOutsideHeap k)
 
 after_none : (g : Gathered) → after 0 g ≡ left_of g
 after_none (all_cells cs) = rw (zero-add (length cs))
 after_none (outside k) = refl
 
 after_all : (f : ℕ → Cell) (n total : ℕ) (g : Gathered) → after total (before_all (cells_from f 0 n) g) ≡ after (total + n) g
-after_all f n total (all_cells cs) = ap L.Cells (omega (arith, cells_before f n cs))
+after_all f n total (all_cells cs) = ap Ok (omega (arith, cells_before f n cs))
 after_all f n total (outside k) = refl
 
 -- what the columns of a plan's row give from column k on without the first `skip` entries, and what is left of the row
@@ -53,7 +54,7 @@ module _ (l : BinTable) (a : List ℕ) (p : RowPlan) where
   pub left_next : (total skip k j : ℕ) → j ≡ next_chosen p.choice k → Left total skip k → Left total skip j
   left_next total skip k j e i = rw (← next_from_lem p.choice k j e l a p.heap p.row) i
 
-module _ (l : BinTable) (a : List ℕ) (c : TableData) (s : Stepped) where
+module _ (l : BinTable) (a : List ℕ) (c : TableData) (s : Stepped (Option ℕ)) where
   pub left_start : c.row < l.naxis2 → Left l a (plan_for l c s) 0 c.passed 0
   left_start h = rw (from_row l a c.choice c.heap c.row h) (omega arith, sym (after_none (later l a (plan_for l c s) 0 c.passed)))
 
@@ -66,7 +67,7 @@ module _ (l : BinTable) (a : List ℕ) (c : TableData) (s : Stepped) where
 
   -- an array outside the heap ends it
   pub left_outside : (total skip k : ℕ) → k < l.tfields → Left l a (plan_for l c s) total skip k → is_outside (field_on l a c s k skip) ≡ true
-      → left_of (gather (drop c.passed (row l a (plan_for l c s)))) ≡ L.OutsideHeap k
+      → left_of (gather (drop c.passed (row l a (plan_for l c s)))) ≡ Err (R.ArrayOutsideHeap k)
   left_outside total skip k h i t = i.1 ∙ rw (later_on k skip h, t)
 
   -- the cells of a column, and those so far, are no more than the row's entries
@@ -87,6 +88,6 @@ module _ (l : BinTable) (a : List ℕ) (c : TableData) (s : Stepped) where
       )
 
   pub left_end : (total skip k : ℕ) → l.tfields ≤ k → Left l a (plan_for l c s) total skip k
-      → left_of (gather (drop c.passed (row l a (plan_for l c s)))) ≡ L.Cells total
+      → left_of (gather (drop c.passed (row l a (plan_for l c s)))) ≡ Ok total
   unfolding gather
   left_end total skip k h i = i.1 ∙ rw (from_end l a c.choice c.heap c.row k h, drop-nil {A = Entry} skip, add-zero total)

@@ -6,6 +6,7 @@
 --     looked                       what is read there
 --     own_step, own_cell           what a row read of the list that is lent came to, and what is read of the whole afterwards
 -- Assumes nothing.
+use Rattle.std.specs.Prelude.{Option}
 use mathlib.Core.Path.{◌≡◌, refl, ap, subst, ◌∙◌}
 use Prim.Native.Nat.{ℕ, zero, suc, ◌-◌, ◌≤◌, ◌<◌, min}
 use native.Mathlib.Nat.{zero-min, suc-min-suc, min-le_right}
@@ -18,7 +19,8 @@ use Rattle.cell.specs.declared.Cell.{Cell}
 use Rattle.walk.specs.declared.TableData.{TableData}
 use Rattle.walk.specs.declared.Stepped.{Stepped}
 use Rattle.walk.specs.Walk.{read_row}
-use Rattle.walk.specs.Step.{Result, cursor_step, result_of}
+use Rattle.walk.specs.Step.{StepResult, cursor_step}
+use Rattle.row.specs.Plan.{result_of}
 use Rattle.row.specs.Owned.{own_read}
 
 module _ {X : Type 0} (u : X) where
@@ -61,13 +63,13 @@ module _ {X : Type 0} (u : X) where
     pub looked : (zs : List X) (k : ℕ) → length zs ≡ length front → get_or (zs ++ back) (min k 512) u ≡ get_or zs k u
     looked zs k l = seen zs 512 (513 - min n 512) k (omega (arith, l, long, min-le_right n 512))
 
-module _ (l : BinTable) (a : List ℕ) (c : TableData) (u : Cell) (n m : ℕ) (at : m ≡ min n 512) (s : Stepped) (zs : List Cell)
+module _ (l : BinTable) (a : List ℕ) (c : TableData) (u : Cell) (n m : ℕ) (at : m ≡ min n 512) (s : Stepped (Option ℕ)) (zs : List Cell)
     (e : result_of s zs ≡ cursor_step l a c (read_row (take m (made u)))) where
   read : result_of s zs ≡ own_read l a c u n
   read = rw (at, lent u n) at e
 
   list_is : zs ≡ (own_read l a c u n).list
-  list_is = ap (λ (r : Result). r.list) read
+  list_is = ap (λ (r : StepResult). r.list) read
 
   pub own_step : result_of s (own_read l a c u n).list ≡ own_read l a c u n
   own_step = subst (λ (ys : List Cell). result_of s ys ≡ own_read l a c u n) list_is read

@@ -1,6 +1,7 @@
 -- A row without descriptors, read from its start: all of its entries are cells, so one pass over the columns gives its
 -- plan.
 -- Assumes nothing.
+use Rattle.std.specs.Prelude.{Ok}
 use Prim.Native.Nat.{ℕ, zero, suc, ◌-◌, ◌<◌}
 use mathlib.Core.Path.{◌≡◌, refl}
 use mathlib.Core.Bool.{Bool, true, false, cond}
@@ -25,14 +26,13 @@ use Rattle.walk.specs.Step.{state_of}
 use Rattle.walk.proofs.Laws.{from}
 use Rattle.table.specs.Scan.{no_descriptor, plain_column}
 use Rattle.table.proofs.Scanned.{Summed, Ready, summed_row, summed_size, summed_belongs}
-use Rattle.row.specs.declared.plan.Rest.TheVariants as L
 use Rattle.row.specs.Plan.{left_of, rest_plan, row_plan}
 
 -- all of these entries are cells
 abbrev pub AllCells : List Entry → Type 0
-AllCells es = left_of (gather es) ≡ L.Cells (length es)
+AllCells es = left_of (gather es) ≡ Ok (length es)
 
-one_more : (x : Cell) (g : Gathered) (n : ℕ) → left_of g ≡ L.Cells n → left_of (before x g) ≡ L.Cells (suc n)
+one_more : (x : Cell) (g : Gathered) (n : ℕ) → left_of g ≡ Ok n → left_of (before x g) ≡ Ok (suc n)
 one_more x (all_cells cs) n e = cc
 one_more x (outside k) n e = cc
 
@@ -79,10 +79,10 @@ module _ (l : BinTable) (a : List ℕ) (choice : ℕ) (heap : Bool) (r k : ℕ) 
 module _ (l : BinTable) (a : List ℕ) (c : TableData) (at n m : ℕ) (full : length (columns_of l) ≡ l.tfields) (y : Ready l a c.choice c.row)
     (w : Summed l a c.choice c.heap c.row l.tfields at n) (ends : at ≡ l.naxis1) (none : c.passed ≡ 0)
     (all : AllCells (from l a c.choice c.heap c.row 0)) where
-  left : left_of (rest (row_entries l a c.choice c.heap) l.naxis2 (state_of c)) ≡ L.Cells n
+  left : left_of (rest (row_entries l a c.choice c.heap) l.naxis2 (state_of c)) ≡ Ok n
   left =
       rw (none, ← summed_size l a c at n full y w ends, summed_row l a c at n full y w ends) all
 
-  pub plain_plan : row_plan l a c m ≡ rest_plan l c m (L.Cells n)
+  pub plain_plan : row_plan l a c m ≡ rest_plan l c m (Ok n)
   unfolding row_plan
   plain_plan = rw (summed_belongs l a c at n full y w ends (rw (eq-eqb c.passed 0 none)), y.in_table, left)

@@ -1,6 +1,7 @@
 -- Isolation about the code's runs: whatever the calls returned and left, by their contracts alone, is what `run` gives, so the claim over the
 -- definitions holds for it; and every list of steps has such a run.
 -- Assumes nothing.
+use Rattle.std.specs.Prelude.{Option, Some, Result, Ok, Err}
 use Prim.Native.Nat.{ℕ}
 use mathlib.Core.Path.{◌≡◌, refl, sym, ap, ap₂, subst, ◌∙◌}
 use mathlib.Core.Bool.{Bool, true, cond}
@@ -9,32 +10,26 @@ use lib.IntN.{pos}
 use Rattle.ascii.specs.Text.{bytes}
 use Rattle.tform.specs.Width.{among, letter_width}
 use Rattle.layout.specs.declared.BinTable.{BinTable}
-use Rattle.refusal.specs.declared.Check.{Check}
-use Rattle.refusal.specs.declared.Check.TheVariants.{Passed}
+use Rattle.refusal.specs.declared.Refusal.{Refusal}
 use Rattle.refusal.specs.declared.Refusal.TheVariants as R
-use Rattle.refusal.specs.Refusal.{outcome_of}
 use Rattle.layout.specs.Layout.{columns_ok, layout_ok}
-use Rattle.bintable.specs.declared.Parsed.{Parsed}
 use Rattle.bintable.specs.Entry.{accepted, entry}
-use Rattle.bintable.proofs.Kept.{parsed_entry}
 use Rattle.cell.specs.declared.DataValue.TheVariants as D
 use Rattle.cell.specs.declared.Cell.{Cell}
 use Rattle.cell.specs.Item.{word, item}
 use Rattle.cell.specs.Field.{field}
 use Rattle.walk.specs.declared.TableData.{TableData}
-use Rattle.walk.specs.declared.Answer.TheVariants as A
-use Rattle.walk.specs.declared.Opened.{Opened}
 use Rattle.walk.specs.declared.Stepped.{Stepped}
 use Rattle.walk.specs.Plain.{field_of, cell_of, cells, entries_of, chosen, column_entries, columns_entries, row_entries}
 use Rattle.walk.specs.Walk.{Step, read_cell, read_row, seek, Reply, got_cell, got_row, sought, refused, gather, place_ok, walk_step}
 use Rattle.walk.specs.Walk as W
-use Rattle.walk.specs.Step.{fits, choice_ok, belongs, cursor_at, Selection, choice_of, Opening, opened, not_opened, open_with, opening_of, Result, with_cursor, cursor_step, run, plain_walk, result_of, stepped}
+use Rattle.walk.specs.Step.{fits, choice_ok, belongs, cursor_at, Selection, choice_of, Opening, opened, not_opened, open_with, opening_of, StepResult, with_cursor, cursor_step, run, plain_walk, cell_result, row_result, seek_result}
 use Rattle.walk.specs.Agree.{Agree, Counted, SameSteps}
-use Rattle.walk.proofs.Answers.{answer_in, answer_stands}
+use Rattle.walk.proofs.Answers.{cell_answer, row_answer, seek_answer, answer_stands, opening_decides}
 use Rattle.walk.proofs.Isolation.{isolation}
 use Rattle.walk.proofs.Examples.{area}
 use Rattle.walk.proofs.Together.{table, cursor}
-use Rattle.row.specs.Ran.{Ran, no_steps, next, read_row_by_value, seek_to_row, lent_next, lent_next_row, lent_seek_to_row, SameRuns, Isolated, CheckEnsures, LayoutEnsures, OpenEnsures}
+use Rattle.row.specs.Ran.{Ran, no_steps, next, read_row_by_value, seek_to_row, lent_next, lent_next_row, lent_seek_to_row, SameRuns, Isolated, EntryEnsures, OpenEnsures}
 
 -- ---- the code's runs and `run`
 
@@ -44,13 +39,13 @@ module _ (l : BinTable) (a : List ℕ) where
   ends c = refl
 
   -- a step, and the steps after it
-  then : (c : TableData) (x : Step) (xs : List Step) (o : Result) (os : List Result) → o ≡ cursor_step l a c x → os ≡ run l a o.cursor xs
+  then : (c : TableData) (x : Step) (xs : List Step) (o : StepResult) (os : List StepResult) → o ≡ cursor_step l a c x → os ≡ run l a o.cursor xs
       → o ∷ os ≡ run l a c (x ∷ xs)
   unfolding run
-  then c x xs o os e r = ap (λ (rest : List Result). o ∷ rest) r ∙ ap (λ (q : Result). q ∷ run l a q.cursor xs) e
+  then c x xs o os e r = ap (λ (rest : List StepResult). o ∷ rest) r ∙ ap (λ (q : StepResult). q ∷ run l a q.cursor xs) e
 
   -- whatever the calls returned and left is what `run` gives
-  pub ran_run : {c : TableData} {xs : List Step} {os : List Result} → Ran l a c xs os → os ≡ run l a c xs
+  pub ran_run : {c : TableData} {xs : List Step} {os : List StepResult} → Ran l a c xs os → os ≡ run l a c xs
   ran_run no_steps = ends _
   ran_run (next r e rest) = then _ _ _ _ _ e (ran_run rest)
   ran_run (read_row_by_value list after r e rest) = then _ _ _ _ _ e (ran_run rest)
@@ -60,46 +55,58 @@ module _ (l : BinTable) (a : List ℕ) where
   ran_run (lent_seek_to_row moved row r e rest) = then _ _ _ _ _ e (ran_run rest)
 
   -- and every list of steps has such a run: for each result there is an answer that a call may return
-  answer : TableData → Step → Stepped
-  answer c x = stepped (cursor_step l a c x).cursor (answer_in (cursor_step l a c x).reply)
+  cell_call : TableData → Stepped (Option Cell)
+  cell_call c = let o = cursor_step l a c read_cell in record { cursor = o.cursor; answer = cell_answer o.reply }
 
-  left_none : (c : TableData) (x : Step) → [] ≡ (cursor_step l a c x).list → result_of (answer c x) [] ≡ cursor_step l a c x
-  unfolding answer
-  left_none c x e = ap₂ (λ (y : Reply) (list : List Cell). record { reply = y; cursor = (cursor_step l a c x).cursor; list = list }) (answer_stands l a c x).0 e
+  cell_called : (c : TableData) → cell_result (cell_call c).cursor (cell_call c).answer ≡ cursor_step l a c read_cell
+  unfolding cell_call
+  cell_called c =
+      let w = answer_stands l a c read_cell in
+      ap₂ (λ (y : Reply) (list : List Cell). record { reply = y; cursor = (cursor_step l a c read_cell).cursor; list = list }) w.0 w.1
 
-  left_list : (c : TableData) (x : Step) → result_of (answer c x) (cursor_step l a c x).list ≡ cursor_step l a c x
-  unfolding answer
-  left_list c x = ap {B = Result} (λ (y : Reply). record { reply = y; cursor = (cursor_step l a c x).cursor; list = (cursor_step l a c x).list }) (answer_stands l a c x).0
+  row_call : TableData → List Cell → Stepped (Option ℕ)
+  row_call c list = let o = cursor_step l a c (read_row list) in record { cursor = o.cursor; answer = row_answer o.reply }
 
-  one_more : (c : TableData) (x : Step) (xs : List Step) (o : Result) → o ≡ cursor_step l a c x → Ran l a c (x ∷ xs) (o ∷ run l a (cursor_step l a c x).cursor xs)
+  row_called : (c : TableData) (list : List Cell)
+      → row_result (row_call c list).cursor (row_call c list).answer (cursor_step l a c (read_row list)).list ≡ cursor_step l a c (read_row list)
+  unfolding row_call
+  row_called c list =
+      let o = cursor_step l a c (read_row list) in
+      ap {B = StepResult} (λ (y : Reply). record { reply = y; cursor = o.cursor; list = o.list }) (answer_stands l a c (read_row list)).0
+
+  seek_call : TableData → ℕ → Stepped Unit
+  seek_call c r = let o = cursor_step l a c (seek r) in record { cursor = o.cursor; answer = seek_answer o.reply }
+
+  seek_called : (c : TableData) (r : ℕ) → seek_result (seek_call c r).cursor (seek_call c r).answer ≡ cursor_step l a c (seek r)
+  unfolding seek_call
+  seek_called c r =
+      let w = answer_stands l a c (seek r) in
+      ap₂ (λ (y : Reply) (list : List Cell). record { reply = y; cursor = (cursor_step l a c (seek r)).cursor; list = list }) w.0 w.1
+
+  one_more : (c : TableData) (x : Step) (xs : List Step) (o : StepResult) → o ≡ cursor_step l a c x → Ran l a c (x ∷ xs) (o ∷ run l a (cursor_step l a c x).cursor xs)
       → Ran l a c (x ∷ xs) (run l a c (x ∷ xs))
   unfolding run
-  one_more c x xs o e ran = subst (λ (q : Result). Ran l a c (x ∷ xs) (q ∷ run l a (cursor_step l a c x).cursor xs)) e ran
+  one_more c x xs o e ran = subst (λ (q : StepResult). Ran l a c (x ∷ xs) (q ∷ run l a (cursor_step l a c x).cursor xs)) e ran
 
   none_more : (c : TableData) → Ran l a c [] (run l a c [])
   unfolding run
   none_more c = no_steps
 
   pub ran_all : (c : TableData) (xs : List Step) → Ran l a c xs (run l a c xs)
-  unfolding answer
+  unfolding cell_call row_call seek_call
   ran_all c [] = none_more c
   ran_all c (read_cell ∷ xs) =
-      let e : result_of (answer c read_cell) [] ≡ cursor_step l a c read_cell = left_none c read_cell (answer_stands l a c read_cell).1 in
-      one_more c read_cell xs _ e (next (answer c read_cell) e (ran_all (cursor_step l a c read_cell).cursor xs))
+      one_more c read_cell xs _ (cell_called c) (next (cell_call c) (cell_called c) (ran_all (cursor_step l a c read_cell).cursor xs))
   ran_all c (read_row list ∷ xs) =
-      let e = left_list c (read_row list) in
-      one_more c (read_row list) xs _ e (read_row_by_value list (cursor_step l a c (read_row list)).list (answer c (read_row list)) e (ran_all (cursor_step l a c (read_row list)).cursor xs))
+      let o = cursor_step l a c (read_row list) in
+      one_more c (read_row list) xs _ (row_called c list) (read_row_by_value list o.list (row_call c list) (row_called c list) (ran_all o.cursor xs))
   ran_all c (seek r ∷ xs) =
-      let e : result_of (answer c (seek r)) [] ≡ cursor_step l a c (seek r) = left_none c (seek r) (answer_stands l a c (seek r)).1 in
-      one_more c (seek r) xs _ e (seek_to_row r (answer c (seek r)) e (ran_all (cursor_step l a c (seek r)).cursor xs))
+      one_more c (seek r) xs _ (seek_called c r) (seek_to_row r (seek_call c r) (seek_called c r) (ran_all (cursor_step l a c (seek r)).cursor xs))
 
 -- ---- isolation
 
-passed_opens : (o : Opened) → o.check ≡ Passed → opening_of o ≡ opened o.cursor
-passed_opens o p = ap {B = Opening} (λ (k : Check). record { outcome = outcome_of k; cursor = o.cursor }) p
-
 -- the claim over the definitions, about the code's runs
-same_runs : (la lb : BinTable) (a b : List ℕ) (sel : Selection) (heap : Bool) (ca cb : TableData) (xs : List Step) (os os' : List Result)
+same_runs : (la lb : BinTable) (a b : List ℕ) (sel : Selection) (heap : Bool) (ca cb : TableData) (xs : List Step) (os os' : List StepResult)
     → la ≡ lb → ca ≡ cb → SameSteps la a b sel heap ca xs → Ran la a ca xs os → Ran lb b cb xs os' → SameRuns la lb a b sel heap xs os os'
 same_runs la lb a b sel heap ca cb xs os os' layouts cursors d ra rb =
     let sa : os ≡ run la a ca xs = ran_run la a ra in
@@ -114,27 +121,25 @@ same_runs la lb a b sel heap ca cb xs os os' layouts cursors d ra rb =
       counted_b = subst (Counted 0 xs) (sym sb) d.counted_b;
     }
 
--- what `bintable::parse` returned for one header with a and with b, both passed; what `table::open` or `table::select_fields` returned on each;
--- and areas that agree
-pub runs_isolated : (h a b : List ℕ) (sel : Selection) (heap : Bool) (pa pb : Parsed) (oa ob : Opened)
-    → CheckEnsures h a pa → LayoutEnsures h a pa → pa.check ≡ Passed
-    → CheckEnsures h b pb → LayoutEnsures h b pb → pb.check ≡ Passed
-    → OpenEnsures pa.layout a sel heap oa → OpenEnsures pb.layout b sel heap ob
-    → Agree pa.layout a b (choice_of pa.layout sel) heap
-    → Isolated pa.layout pb.layout a b sel heap oa ob
-runs_isolated h a b sel heap pa pb oa ob check_a layout_a passed_a check_b layout_b passed_b opened_a opened_b agree =
-    let la = pa.layout in
-    let lb = pb.layout in
-    let ea : entry h a ≡ accepted la = parsed_entry h a pa.check la check_a layout_a passed_a in
-    let eb : entry h b ≡ accepted lb = parsed_entry h b pb.check lb check_b layout_b passed_b in
+-- the layouts that `bintable::parse` returned for one header with a and with b; what `table::open` or `table::select_fields` returned on each; and
+-- areas that agree
+pub runs_isolated : (h a b : List ℕ) (sel : Selection) (heap : Bool) (la lb : BinTable) (oa ob : Result TableData Refusal)
+    → EntryEnsures h a (Ok la) → EntryEnsures h b (Ok lb)
+    → OpenEnsures la a sel heap oa → OpenEnsures lb b sel heap ob
+    → Agree la a b (choice_of la sel) heap
+    → Isolated la lb a b sel heap oa ob
+runs_isolated h a b sel heap la lb oa ob entry_a entry_b opened_a opened_b agree =
+    let ea : entry h a ≡ accepted la = sym entry_a in
+    let eb : entry h b ≡ accepted lb = sym entry_b in
     let layouts : la ≡ lb = (isolation h a b sel heap [] la lb ea eb agree).0 in
     let openings : opening_of oa ≡ opening_of ob = opened_a ∙ (isolation h a b sel heap [] la lb ea eb agree).1.0 ∙ sym opened_b in
     record {
       layouts = layouts;
       openings = openings;
-      runs = λ passed xs os os'.
-          same_runs la lb a b sel heap oa.cursor ob.cursor xs os os' layouts (ap (λ (x : Opening). x.cursor) openings)
-          ((isolation h a b sel heap xs la lb ea eb agree).1.1 oa.cursor (sym opened_a ∙ passed_opens oa passed));
+      both_opened = λ cursor o. sym (opening_decides oa ob openings) ∙ o;
+      runs = λ cursor o xs os os'.
+          same_runs la lb a b sel heap cursor cursor xs os os' layouts refl
+          ((isolation h a b sel heap xs la lb ea eb agree).1.1 cursor (sym opened_a ∙ ap opening_of o));
     }
 
 -- opening looks at a selection through its choice alone, so two selections of the same columns may be taken: all columns and a list of all, for one
@@ -143,15 +148,13 @@ unfolding open_with
 choice_opens l a sel sel' heap e =
     ap (λ (k : ℕ). cond (fits l a) (cond (choice_ok l k) (opened (cursor_at k heap W.start)) (not_opened 11)) (not_opened 10)) e
 
-pub choices_isolated : (h a b : List ℕ) (sel sel' : Selection) (heap : Bool) (pa pb : Parsed) (oa ob : Opened)
-    → CheckEnsures h a pa → LayoutEnsures h a pa → pa.check ≡ Passed
-    → CheckEnsures h b pb → LayoutEnsures h b pb → pb.check ≡ Passed
-    → OpenEnsures pa.layout a sel heap oa → OpenEnsures pb.layout b sel' heap ob → choice_of pb.layout sel' ≡ choice_of pb.layout sel
-    → Agree pa.layout a b (choice_of pa.layout sel) heap
-    → Isolated pa.layout pb.layout a b sel heap oa ob
-choices_isolated h a b sel sel' heap pa pb oa ob check_a layout_a passed_a check_b layout_b passed_b opened_a opened_b e agree =
-    runs_isolated h a b sel heap pa pb oa ob check_a layout_a passed_a check_b layout_b passed_b opened_a
-    (opened_b ∙ choice_opens pb.layout b sel sel' heap e) agree
+pub choices_isolated : (h a b : List ℕ) (sel sel' : Selection) (heap : Bool) (la lb : BinTable) (oa ob : Result TableData Refusal)
+    → EntryEnsures h a (Ok la) → EntryEnsures h b (Ok lb)
+    → OpenEnsures la a sel heap oa → OpenEnsures lb b sel' heap ob → choice_of lb sel' ≡ choice_of lb sel
+    → Agree la a b (choice_of la sel) heap
+    → Isolated la lb a b sel heap oa ob
+choices_isolated h a b sel sel' heap la lb oa ob entry_a entry_b opened_a opened_b e agree =
+    runs_isolated h a b sel heap la lb oa ob entry_a entry_b opened_a (opened_b ∙ choice_opens lb b sel sel' heap e) agree
 
 -- ---- a run of all six calls, on the request's example: a cell, the rest of its row, a row that the table lacks, a seek back, a list that is too
 -- short, and the first cell again
@@ -168,7 +171,7 @@ cell_1 = cell_of 0 1 0 (D.Integer (pos 8000))
 abbrev filler : Cell
 filler = cell_of 7 7 7 (D.Bit 7)
 
-abbrev result : Reply → TableData → List Cell → Result
+abbrev result : Reply → TableData → List Cell → StepResult
 result r c list = record { reply = r; cursor = c; list = list }
 
 pub some_calls : Ran table area cursor (read_cell ∷ read_row (filler ∷ filler ∷ []) ∷ seek 2 ∷ seek 0 ∷ read_row (filler ∷ []) ∷ read_cell ∷ []) (
@@ -181,9 +184,9 @@ pub some_calls : Ran table area cursor (read_cell ∷ read_row (filler ∷ fille
     ∷ [])
 unfolding table cursor_step belongs fits layout_ok columns_ok choice_ok place_ok walk_step W.next gather row_entries columns_entries column_entries entries_of cells chosen field_of field item word letter_width among bytes
 some_calls =
-    next (stepped (place 0 1 1) (A.Cell cell_0)) refl
-    (lent_next_row (place 1 0 2) (filler ∷ filler ∷ []) (cell_1 ∷ filler ∷ []) (A.Row 1) refl
-    (lent_seek_to_row (place 1 0 2) 2 (A.Refused (R.NoSuchRow 2)) refl
-    (seek_to_row 0 (stepped (place 0 0 2) A.Sought) refl
-    (read_row_by_value (filler ∷ []) (filler ∷ []) (stepped (place 0 0 2) (A.Refused (R.ShortList 2))) refl
-    (lent_next (place 0 1 3) (A.Cell cell_0) refl no_steps)))))
+    next (record { cursor = place 0 1 1; answer = Ok (Some cell_0) }) refl
+    (lent_next_row (place 1 0 2) (filler ∷ filler ∷ []) (cell_1 ∷ filler ∷ []) (Ok (Some 1)) refl
+    (lent_seek_to_row (place 1 0 2) 2 (Err (R.NoSuchRow 2)) refl
+    (seek_to_row 0 (record { cursor = place 0 0 2; answer = Ok tt }) refl
+    (read_row_by_value (filler ∷ []) (filler ∷ []) (record { cursor = place 0 0 2; answer = Err (R.ShortList 2) }) refl
+    (lent_next (place 0 1 3) (Ok (Some cell_0)) refl no_steps)))))

@@ -1,5 +1,6 @@
 -- A row read that stores by its plan is the step: the plan's fields lie in the list, and the list then holds what the walk says.
 -- Assumes nothing.
+use Rattle.std.specs.Prelude.{Option}
 use Prim.Native.Nat.{ℕ, zero, suc, ◌+◌, ◌*◌, ◌≤◌, ◌<◌, ◌^◌}
 use mathlib.Core.Path.{◌≡◌, refl, sym, ap, ◌∙◌}
 use mathlib.Core.Bool.{true}
@@ -24,13 +25,13 @@ use Rattle.walk.specs.declared.Stepped.{Stepped}
 use Rattle.walk.specs.declared.Entry.{Entry}
 use Rattle.walk.specs.Plain.{column_of, field_of, chosen, columns_entries, row_entries}
 use Rattle.walk.specs.Walk.{read_row, Outcome, Gathered, all_cells, outside, gather, row_outcome, rest, walk_step}
-use Rattle.walk.specs.Step.{belongs, state_of, Result, with_cursor, cursor_step, result_of}
+use Rattle.walk.specs.Step.{belongs, state_of, StepResult, with_cursor, cursor_step}
 use Rattle.walk.proofs.Inside.{fits_layout, limits, column_in_row, row_in_main, data_bound, items_bound}
 use Rattle.walk.proofs.Laws.{from_row}
 use Rattle.walk.proofs.Steps.{belongs_fits}
 use Rattle.row.specs.declared.plan.FieldKind.{FieldKind}
 use Rattle.row.specs.declared.plan.RowPlan.{RowPlan}
-use Rattle.row.specs.Plan.{plan_of, field_plan, is_outside, planned_cell, PlanOk, stored_at, filled, RowFits, left_of, plan_for, rest_plan, row_plan}
+use Rattle.row.specs.Plan.{result_of, plan_of, field_plan, is_outside, planned_cell, PlanOk, stored_at, filled, RowFits, left_of, plan_for, rest_plan, row_plan}
 use Rattle.row.proofs.Fields.{by_both, cells_from, cells_length, cells_before, cells_more, before_all, field_on, column_gathered}
 
 -- ---- the list after a field's cells
@@ -78,7 +79,7 @@ field_ok r c column kind p skip F.OutsideHeap l h = λ i q. let e : skip + i ≡
 
 -- ---- the columns, one after the other
 
-module _ (l : BinTable) (a : List ℕ) (c : TableData) (s : Stepped) where
+module _ (l : BinTable) (a : List ℕ) (c : TableData) (s : Stepped (Option ℕ)) where
   -- what is gathered of the m columns from column k on, without the first `skip` entries
   abbrev gathered : ℕ → ℕ → ℕ → Gathered
   gathered k m skip = gather (drop skip (columns_entries l a c.choice c.heap c.row k m))
@@ -144,17 +145,17 @@ module _ (l : BinTable) (a : List ℕ) (c : TableData) (list : List Cell) where
   done p = filled l.columns a p 0 p.tfields p.passed 0 list
 
   -- what the row read by a plan comes to, and that the plan can be followed
-  abbrev Follows : RowPlan → Result → Type 0
+  abbrev Follows : RowPlan → StepResult → Type 0
   Follows p r = (result_of p.stepped (done p) ≡ r) × ((p.tfields ≤ 64) × RowFits l.columns a p 0 p.tfields p.passed 0 (length list))
 
   -- a plan that goes over all columns
   follows_all : layout_ok l ≡ true → (cs : List Cell) → length cs ≤ length list
-      → ((s : Stepped) → Stores l a c s 0 l.tfields c.passed (all_cells cs) × Fits l a c s 0 l.tfields c.passed (all_cells cs))
-      → (s : Stepped) (r : Result) → result_of s (cs ++ drop (length cs) list) ≡ r → Follows (plan_for l c s) r
+      → ((s : Stepped (Option ℕ)) → Stores l a c s 0 l.tfields c.passed (all_cells cs) × Fits l a c s 0 l.tfields c.passed (all_cells cs))
+      → (s : Stepped (Option ℕ)) (r : StepResult) → result_of s (cs ++ drop (length cs) list) ≡ r → Follows (plan_for l c s) r
   follows_all ok cs h d s r e = (ap (result_of s) ((d s).0 [] list h) ∙ e, ((limits l ok).columns, (d s).1 0 (length list) (omega (arith, h))))
 
   -- for what is left of the row
-  follows_rest : layout_ok l ≡ true → (g : Gathered) → ((s : Stepped) → Stores l a c s 0 l.tfields c.passed g × Fits l a c s 0 l.tfields c.passed g)
+  follows_rest : layout_ok l ≡ true → (g : Gathered) → ((s : Stepped (Option ℕ)) → Stores l a c s 0 l.tfields c.passed g × Fits l a c s 0 l.tfields c.passed g)
       → Follows (rest_plan l c (length list) (left_of g)) (with_cursor c.choice c.heap (row_outcome (row_entries l a c.choice c.heap) l.naxis2 (state_of c) list g))
   unfolding filled RowFits
   follows_rest ok (outside k) d = (refl, (omega arith, tt))
@@ -166,7 +167,7 @@ module _ (l : BinTable) (a : List ℕ) (c : TableData) (list : List Cell) where
   abbrev rows : ℕ → List Entry
   rows = row_entries l a c.choice c.heap
 
-  left : belongs l a c ≡ true → c.row < l.naxis2 → (s : Stepped)
+  left : belongs l a c ≡ true → c.row < l.naxis2 → (s : Stepped (Option ℕ))
       → Stores l a c s 0 l.tfields c.passed (rest rows l.naxis2 (state_of c)) × Fits l a c s 0 l.tfields c.passed (rest rows l.naxis2 (state_of c))
   left t h s =
       rw (from_row l a c.choice c.heap c.row h, sub-zero l.tfields) (

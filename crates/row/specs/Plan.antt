@@ -1,13 +1,14 @@
 -- What a row read decides before it stores a cell, and what the list then holds: the plan of a field, the plan of a row, and the list after the fields' cells
 -- are stored one after the other. The calls' contracts are not stated by these; proofs/Stored shows that a row read by its plan is the step of walk/specs/Step.
 -- Assumes nothing.
-use Rattle.std.specs.Prelude.{ℕ, zero, suc, ◌+◌, ◌-◌, ◌*◌, ◌≤◌, ◌<◌, ◌^◌, Bool, false, cond, List, [], length, get_or, set, leb, ltb}
+use Rattle.std.specs.Prelude.{ℕ, zero, suc, ◌+◌, ◌-◌, ◌*◌, ◌≤◌, ◌<◌, ◌^◌, Bool, false, cond, List, [], length, get_or, set, leb, ltb, Option, Some, None, Result, Ok, Err}
 use Rattle.tform.specs.declared.VariableArrayTy.{VariableArrayTy}
 use Rattle.tform.specs.declared.VariableArrayTy.TheVariants.{L}
 use Rattle.tform.specs.declared.TFormType.{TFormType}
 use Rattle.tform.specs.declared.TFormType.TheVariants as T
 use Rattle.layout.specs.declared.Column.{Column}
 use Rattle.layout.specs.declared.BinTable.{BinTable}
+use Rattle.refusal.specs.declared.Refusal.{Refusal}
 use Rattle.refusal.specs.declared.Refusal.TheVariants as R
 use Rattle.layout.specs.Layout.{no_column, data_size}
 use Rattle.cell.specs.declared.Cell.{Cell}
@@ -18,18 +19,14 @@ use Rattle.cell.specs.declared.Field.TheVariants as F
 use Rattle.cell.specs.Item.{word, width, item}
 use Rattle.cell.specs.Field.{field}
 use Rattle.walk.specs.declared.TableData.{TableData}
-use Rattle.walk.specs.declared.Answer.{Answer}
-use Rattle.walk.specs.declared.Answer.TheVariants as A
 use Rattle.walk.specs.declared.Stepped.{Stepped}
 use Rattle.walk.specs.Plain.{cell_of, chosen, row_entries}
 use Rattle.walk.specs.Walk.{read_row, placed, grown, Gathered, all_cells, outside, rest}
-use Rattle.walk.specs.Step.{belongs, state_of, cursor_at, stepped}
+use Rattle.walk.specs.Step.{belongs, state_of, cursor_at, StepResult, row_result}
 use Rattle.row.specs.declared.plan.RowPlan.{RowPlan}
 use Rattle.row.specs.declared.plan.FieldKind.{FieldKind}
 use Rattle.row.specs.declared.plan.FieldKind.TheVariants as K
 use Rattle.row.specs.declared.plan.FieldPlan.{FieldPlan}
-use Rattle.row.specs.declared.plan.Rest.{Rest}
-use Rattle.row.specs.declared.plan.Rest.TheVariants as Left
 
 -- ---- a field
 
@@ -118,13 +115,20 @@ module _ (columns : List Column) (a : List ℕ) (p : RowPlan) where
 
 -- ---- a row
 
--- what is left of a row, without the cells
-abbrev pub left_of : Gathered → Rest
-left_of (all_cells cs) = Left.Cells (length cs)
-left_of (outside k) = Left.OutsideHeap k
+-- what a row read returned and left in the list, as the result of a step
+abbrev pub result_of : Stepped (Option ℕ) → List Cell → StepResult
+result_of s list = row_result s.cursor s.answer list
+
+abbrev pub stepped : TableData → Result (Option ℕ) Refusal → Stepped (Option ℕ)
+stepped c r = record { cursor = c; answer = r }
+
+-- what is left of a row: how many cells, or the refusal of an array outside the heap
+abbrev pub left_of : Gathered → Result ℕ Refusal
+left_of (all_cells cs) = Ok (length cs)
+left_of (outside k) = Err (R.ArrayOutsideHeap k)
 
 -- the plan of the cursor's row that goes over all columns
-abbrev pub plan_for : BinTable → TableData → Stepped → RowPlan
+abbrev pub plan_for : BinTable → TableData → Stepped (Option ℕ) → RowPlan
 plan_for l c s =
     record {
       tfields = l.tfields;
@@ -139,7 +143,7 @@ plan_for l c s =
     }
 
 -- the plan that stores nothing and leaves the cursor where it is
-abbrev pub no_plan : TableData → Answer → RowPlan
+abbrev pub no_plan : TableData → Result (Option ℕ) Refusal → RowPlan
 no_plan c r = record { tfields = 0; choice = 0; heap = false; row = 0; passed = 0; start = 0; theap = 0; end = 0; stepped = stepped c r }
 
 -- the cursor at the next row's start, with n more cells counted
@@ -147,14 +151,14 @@ abbrev pub next_row : TableData → ℕ → TableData
 next_row c n = cursor_at c.choice c.heap (placed (grown (state_of c) (read_row []) n) (suc c.row) 0)
 
 -- the plan for what is left and a list of m cells: 13 comes before 14
-abbrev pub rest_plan : BinTable → TableData → ℕ → Rest → RowPlan
-rest_plan l c m (Left.OutsideHeap k) = no_plan c (A.Refused (R.ArrayOutsideHeap k))
-rest_plan l c m (Left.Cells n) = cond (leb n m) (plan_for l c (stepped (next_row c n) (A.Row n))) (no_plan c (A.Refused (R.ShortList n)))
+abbrev pub rest_plan : BinTable → TableData → ℕ → Result ℕ Refusal → RowPlan
+rest_plan l c m (Err r) = no_plan c (Err r)
+rest_plan l c m (Ok n) = cond (leb n m) (plan_for l c (stepped (next_row c n) (Ok (Some n)))) (no_plan c (Err (R.ShortList n)))
 
 unfoldable pub row_plan : BinTable → List ℕ → TableData → ℕ → RowPlan
 row_plan l a c m =
     cond (belongs l a c)
     (cond (ltb c.row l.naxis2)
     (rest_plan l c m (left_of (rest (row_entries l a c.choice c.heap) l.naxis2 (state_of c))))
-    (no_plan c A.End))
-    (no_plan c (A.Refused R.Mismatch))
+    (no_plan c (Ok None)))
+    (no_plan c (Err R.Mismatch))

@@ -5,19 +5,25 @@ mod fill;
 pub mod owners;
 mod plan;
 
-ghost use Rattle.std.specs.Prelude.{◌≡◌, []};
+ghost use Rattle.std.specs.Prelude.{◌≡◌};
 ghost use Rattle.walk.specs.Walk.{read_cell, read_row, seek};
-ghost use Rattle.walk.specs.Step.{cursor_step, result_of, stepped};
+ghost use Rattle.walk.specs.Step.{cursor_step, cell_result, row_result, seek_result};
 
 use cell::Cell;
 use layout::BinTable;
-use walk::{Answer, Stepped, TableData};
+use refusal::Refusal;
+use walk::{Stepped, TableData};
 
 // The row read: what is left of the row to the front of the list, and the next row's start. The answer is the
-// number of cells, the end, or a refusal: 10 as for every step, 13 at an array outside the heap, 14 if the list is
+// number of cells, none at the end, or a refusal: 10 as for every step, 13 at an array outside the heap, 14 if the list is
 // too short. A refusal returns the cursor that it got and leaves the list as it was.
-pub fn read_row(layout: BinTable, area: &[u8], cursor: TableData, list: &mut [Cell]) -> Stepped
-    ensures { result_of result list.new ≡ cursor_step layout area.now cursor (read_row list.old) }
+pub fn read_row(
+    layout: BinTable,
+    area: &[u8],
+    cursor: TableData,
+    list: &mut [Cell],
+) -> Stepped<Option<u64>>
+    ensures { row_result result.cursor result.answer list.new ≡ cursor_step layout area.now cursor (read_row list.old) }
 {
     let plan = plan::row_plan(layout, area, cursor, list.len());
     let columns = plan::columns(layout);
@@ -26,8 +32,8 @@ pub fn read_row(layout: BinTable, area: &[u8], cursor: TableData, list: &mut [Ce
 }
 
 // The cell read over a lent cursor, which is moved for its owner.
-pub fn next(cursor: &mut TableData, layout: BinTable, area: &[u8]) -> Answer
-    ensures { result_of (stepped cursor.new result) [] ≡ cursor_step layout area.now cursor.old read_cell }
+pub fn next(cursor: &mut TableData, layout: BinTable, area: &[u8]) -> Result<Option<Cell>, Refusal>
+    ensures { cell_result cursor.new result ≡ cursor_step layout area.now cursor.old read_cell }
 {
     let out = table::next(layout, area, *cursor);
     *cursor = out.cursor;
@@ -35,8 +41,13 @@ pub fn next(cursor: &mut TableData, layout: BinTable, area: &[u8]) -> Answer
 }
 
 // The row read over a lent cursor.
-pub fn next_row(cursor: &mut TableData, layout: BinTable, area: &[u8], list: &mut [Cell]) -> Answer
-    ensures { result_of (stepped cursor.new result) list.new ≡ cursor_step layout area.now cursor.old (read_row list.old) }
+pub fn next_row(
+    cursor: &mut TableData,
+    layout: BinTable,
+    area: &[u8],
+    list: &mut [Cell],
+) -> Result<Option<u64>, Refusal>
+    ensures { row_result cursor.new result list.new ≡ cursor_step layout area.now cursor.old (read_row list.old) }
 {
     let out = read_row(layout, area, *cursor, list);
     *cursor = out.cursor;
@@ -44,8 +55,13 @@ pub fn next_row(cursor: &mut TableData, layout: BinTable, area: &[u8], list: &mu
 }
 
 // The seek over a lent cursor.
-pub fn seek_to_row(cursor: &mut TableData, layout: BinTable, area: &[u8], row: usize) -> Answer
-    ensures { result_of (stepped cursor.new result) [] ≡ cursor_step layout area.now cursor.old (seek row) }
+pub fn seek_to_row(
+    cursor: &mut TableData,
+    layout: BinTable,
+    area: &[u8],
+    row: usize,
+) -> Result<(), Refusal>
+    ensures { seek_result cursor.new result ≡ cursor_step layout area.now cursor.old (seek row) }
 {
     let out = table::seek_to_row(layout, area, *cursor, row);
     *cursor = out.cursor;

@@ -1,8 +1,6 @@
-// Owners of a cursor and of a list, which the calls are lent. Their own parameters are plain, so that a program
-// above needs no reference to a cursor or to cells.
-ghost use Rattle.std.specs.Prelude.{◌≡◌, [], get_or, min};
-ghost use Rattle.walk.specs.Walk.{read_cell, seek};
-ghost use Rattle.walk.specs.Step.{cursor_step, result_of};
+// The owner of a list of cells, which a row read is lent: for a caller that has none of its own.
+ghost use Rattle.std.specs.Prelude.{◌≡◌, get_or, min};
+ghost use Rattle.walk.specs.Step.{row_result};
 ghost use Rattle.row.specs.Owned.{own_read};
 
 use cell::Cell;
@@ -16,7 +14,7 @@ pub const LIST_LIMIT: usize = 512;
 // What a row read returned, and one cell of the list afterwards.
 #[derive(Clone, Copy)]
 pub struct RowCell {
-    pub stepped: Stepped,
+    pub stepped: Stepped<Option<u64>>,
     pub cell: Cell,
 }
 
@@ -25,30 +23,6 @@ fn at_most(n: usize, limit: usize) -> usize
     ensures { result ≡ min n limit }
 {
     if n < limit { n } else { limit }
-}
-
-// The cell read, with a cursor of its own that is lent for it.
-pub fn next(layout: BinTable, area: &[u8], cursor: TableData) -> Stepped
-    ensures { result_of result [] ≡ cursor_step layout area.now cursor read_cell }
-{
-    let mut own = cursor;
-    let answer = super::next(&mut own, layout, area);
-    Stepped {
-        cursor: own,
-        answer,
-    }
-}
-
-// The seek, likewise.
-pub fn seek_to_row(layout: BinTable, area: &[u8], cursor: TableData, row: usize) -> Stepped
-    ensures { result_of result [] ≡ cursor_step layout area.now cursor (seek row) }
-{
-    let mut own = cursor;
-    let answer = super::seek_to_row(&mut own, layout, area, row);
-    Stepped {
-        cursor: own,
-        answer,
-    }
 }
 
 // The row read, with a cursor and a list of its own that are lent for it: n cells, 512 at most, all of them `filler`
@@ -61,7 +35,7 @@ pub fn row_cell(
     n: usize,
     k: usize,
 ) -> RowCell
-    ensures step { result_of result.stepped (own_read layout area.now cursor filler n).list
+    ensures step { row_result result.stepped.cursor result.stepped.answer (own_read layout area.now cursor filler n).list
         ≡ own_read layout area.now cursor filler n }
     ensures cell { result.cell ≡ get_or (own_read layout area.now cursor filler n).list k filler }
 {
@@ -77,20 +51,4 @@ pub fn row_cell(
         answer,
     };
     RowCell { stepped, cell }
-}
-
-// The same, under the name that a caller of landings 4 to 10 has it by.
-pub fn next_row_cell(
-    layout: BinTable,
-    area: &[u8],
-    cursor: TableData,
-    filler: Cell,
-    n: usize,
-    k: usize,
-) -> RowCell
-    ensures step { result_of result.stepped (own_read layout area.now cursor filler n).list
-        ≡ own_read layout area.now cursor filler n }
-    ensures cell { result.cell ≡ get_or (own_read layout area.now cursor filler n).list k filler }
-{
-    row_cell(layout, area, cursor, filler, n, k)
 }

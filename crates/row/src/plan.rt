@@ -11,7 +11,7 @@ use cell::Field;
 use layout::{BinTable, Column, TFIELDS_LIMIT};
 use refusal::Refusal;
 use tform::{TFormType, VariableArrayTy};
-use walk::{Answer, Stepped, TableData};
+use walk::{Stepped, TableData};
 
 // The plan of a row: how many columns are gone over, none at the end and at a refusal; the choice, heap setting and
 // place of the cursor; where the row starts, where the heap starts and ends; and what the row read returns.
@@ -25,7 +25,7 @@ pub struct RowPlan {
     pub start: u64,
     pub theap: u64,
     pub end: u64,
-    pub stepped: Stepped,
+    pub stepped: Stepped<Option<u64>>,
 }
 
 // What the entries of a field are: items, a descriptor of 32-bit or of 64-bit numbers that is not followed, or an
@@ -51,13 +51,6 @@ pub struct FieldPlan {
     pub first: u64,
     pub n: usize,
     pub skip: u64,
-}
-
-// What is left of a row: a number of cells, or an array outside the heap.
-#[derive(Clone, Copy)]
-pub enum Rest {
-    Cells(u64),
-    OutsideHeap { column: usize },
 }
 
 // The columns of a layout, as one value: the loop that stores then copies the columns alone, and once a row.
@@ -193,7 +186,7 @@ fn is_outside(plan: FieldPlan) -> bool
 }
 
 // The plan of the cursor's row that goes over all columns.
-fn plan_for(layout: BinTable, cursor: TableData, stepped: Stepped) -> RowPlan
+fn plan_for(layout: BinTable, cursor: TableData, stepped: Stepped<Option<u64>>) -> RowPlan
     requires { (layout_ok layout ≡ true) × (cursor.row < layout.naxis2) }
     ensures { result ≡ plan_for layout cursor stepped }
 {
@@ -212,7 +205,7 @@ fn plan_for(layout: BinTable, cursor: TableData, stepped: Stepped) -> RowPlan
 }
 
 // The plan that stores nothing and leaves the cursor where it is.
-fn no_plan(cursor: TableData, answer: Answer) -> RowPlan
+fn no_plan(cursor: TableData, answer: Result<Option<u64>, Refusal>) -> RowPlan
     ensures { result ≡ no_plan cursor answer }
 {
     RowPlan {
@@ -229,7 +222,7 @@ fn no_plan(cursor: TableData, answer: Answer) -> RowPlan
 }
 
 // What is left of the cursor's row.
-fn rest_of(layout: BinTable, area: &[u8], cursor: TableData) -> Rest
+fn rest_of(layout: BinTable, area: &[u8], cursor: TableData) -> Result<u64, Refusal>
     requires { (fits layout area.now ≡ true) × (cursor.row < layout.naxis2) }
     ensures { result ≡ left_of (rest (row_entries layout area.now cursor.choice cursor.heap) layout.naxis2
         (state_of cursor)) }
@@ -237,7 +230,7 @@ fn rest_of(layout: BinTable, area: &[u8], cursor: TableData) -> Rest
     // What the row read returns is not known yet, and the plan of a field does not look at it.
     let stepped = Stepped {
         cursor,
-        answer: Answer::End,
+        answer: Ok(None),
     };
     let plan = plan_for(layout, cursor, stepped);
     let mut total: u64 = 0;
@@ -247,13 +240,13 @@ fn rest_of(layout: BinTable, area: &[u8], cursor: TableData) -> Rest
         let column = layout.columns[c];
         let planned = judged_plan(area, plan, column, c, skip);
         if is_outside(planned) {
-            return Rest::OutsideHeap { column: c };
+            return Err(Refusal::ArrayOutsideHeap { column: c });
         }
         total += planned.n as u64;
         skip = planned.skip;
         c = table::pass::next_chosen(plan.choice, c + 1);
     }
-    Rest::Cells(total)
+    Ok(total)
 }
 
 // The cursor at the start of the next row, with n more cells counted.
@@ -269,25 +262,26 @@ fn at_next_row(cursor: TableData, n: u64) -> TableData
 }
 
 // The plan for what is left of the cursor's row and a list of `room` cells.
-fn rest_plan(layout: BinTable, cursor: TableData, rest: Rest, room: usize) -> RowPlan
+fn rest_plan(
+    layout: BinTable,
+    cursor: TableData,
+    rest: Result<u64, Refusal>,
+    room: usize,
+) -> RowPlan
     requires { (layout_ok layout ≡ true) × (cursor.row < layout.naxis2) }
     ensures { result ≡ rest_plan layout cursor room rest }
 {
     match rest {
-        Rest::OutsideHeap { column } => {
-            let refusal = Refusal::ArrayOutsideHeap { column };
-            no_plan(cursor, Answer::Refused(refusal))
-        }
-        Rest::Cells(n) => {
-            if n <= room as u64 {
-                let stepped = Stepped {
-                    cursor: at_next_row(cursor, n),
-                    answer: Answer::Row(n),
-                };
-                return plan_for(layout, cursor, stepped);
+        Err(refusal) => no_plan(cursor, Err(refusal)),
+        Ok(n) => {
+            if (room as u64) < n {
+                return no_plan(cursor, Err(Refusal::ShortList { cells: n }));
             }
-            let refusal = Refusal::ShortList { cells: n };
-            no_plan(cursor, Answer::Refused(refusal))
+            let stepped = Stepped {
+                cursor: at_next_row(cursor, n),
+                answer: Ok(Some(n)),
+            };
+            plan_for(layout, cursor, stepped)
         }
     }
 }
@@ -301,9 +295,9 @@ fn any_plan(layout: BinTable, area: &[u8], cursor: TableData, room: usize) -> Ro
             let rest = rest_of(layout, area, cursor);
             return rest_plan(layout, cursor, rest, room);
         }
-        return no_plan(cursor, Answer::End);
+        return no_plan(cursor, Ok(None));
     }
-    no_plan(cursor, Answer::Refused(Refusal::Mismatch))
+    no_plan(cursor, Err(Refusal::Mismatch))
 }
 
 // The plan of a row read into a list of `room` cells. One pass over the columns plans a row without descriptors
@@ -341,7 +335,7 @@ pub fn row_plan(layout: BinTable, area: &[u8], cursor: TableData, room: usize) -
         c += 1;
     }
     if at == layout.naxis1 {
-        return rest_plan(layout, cursor, Rest::Cells(cells), room);
+        return rest_plan(layout, cursor, Ok(cells), room);
     }
     any_plan(layout, area, cursor, room)
 }

@@ -1,12 +1,12 @@
 -- The numbers that the parts of a line are, one part at a time: whether all are numbers, and each at its place of a list.
 -- Assumes nothing.
+use Rattle.std.specs.Prelude.{Some, None}
 use mathlib.Core.Path.{◌≡◌, refl, ap}
 use mathlib.Core.Bool.{true, false, false≢true}
 use mathlib.Core.List.{List, []}
 use Prim.Native.Nat.{ℕ, ◌+◌, ◌-◌, ◌≤◌, ◌<◌}
 use native.Mathlib.Omega.{arith}
 use lib.ListN.{length, take, drop, set}
-use Rattle.ascii.specs.declared.Found.TheVariants.{At, Nothing}
 use Rattle.steps.specs.Split.{before}
 use Rattle.ascii.specs.Number.{number}
 use Rattle.steps.specs.Numbers.{Numbers, all_of, not_all, with_first, numbers, are_numbers}
@@ -14,12 +14,12 @@ use Rattle.steps.specs.declared.Command.TheVariants as C
 use Rattle.steps.specs.Line.{choose_by, command_of, indexes_of, in_places}
 use Rattle.steps.proofs.Lines.{parts_from, parts_next, parts_end}
 
-all_at : (m : ℕ) (r : Numbers) → are_numbers (with_first (At m) r) ≡ are_numbers r
+all_at : (m : ℕ) (r : Numbers) → are_numbers (with_first (Some m) r) ≡ are_numbers r
 all_at m (all_of ns) = refl
 all_at m not_all = refl
 
 place_at : (xs : List ℕ) (m : ℕ) (r : Numbers) → are_numbers r ≡ true
-    → in_places xs (indexes_of (choose_by (with_first (At m) r))) ≡ in_places (set xs m m) (indexes_of (choose_by r))
+    → in_places xs (indexes_of (choose_by (with_first (Some m) r))) ≡ in_places (set xs m m) (indexes_of (choose_by r))
 unfolding in_places
 place_at xs m (all_of ns) h = refl
 place_at xs m not_all h = absurd (false≢true h)
@@ -32,14 +32,14 @@ module _ (s : List ℕ) (at : ℕ) (h : at ≤ length s) (end : ℕ) (e : end �
       let q : end - at ≡ before 32 (drop at s) = omega (arith, e) in
       rw (q, e) (ap numbers (parts_next s at h))
 
-  pub all_next : (m : ℕ) → number (take (end - at) (drop at s)) ≡ At m
+  pub all_next : (m : ℕ) → number (take (end - at) (drop at s)) ≡ Some m
       → are_numbers (numbers (parts_from s at)) ≡ are_numbers (numbers (parts_from s (end + 1)))
   all_next m f = rw (next, f) (all_at m (numbers (parts_from s (end + 1))))
 
-  pub all_stop : number (take (end - at) (drop at s)) ≡ Nothing → are_numbers (numbers (parts_from s at)) ≡ false
+  pub all_stop : number (take (end - at) (drop at s)) ≡ None → are_numbers (numbers (parts_from s at)) ≡ false
   all_stop f = rw (next, f)
 
-  pub place_next : (xs : List ℕ) (m : ℕ) → number (take (end - at) (drop at s)) ≡ At m
+  pub place_next : (xs : List ℕ) (m : ℕ) → number (take (end - at) (drop at s)) ≡ Some m
       → are_numbers (numbers (parts_from s at)) ≡ true
       → in_places xs (indexes_of (choose_by (numbers (parts_from s at))))
       ≡ in_places (set xs m m) (indexes_of (choose_by (numbers (parts_from s (end + 1)))))
@@ -56,11 +56,11 @@ module _ (s : List ℕ) (at : ℕ) (h : length s < at) where
   place_end xs = rw (parts_end s at h)
 
 -- what a `choose` line says by whether its parts are all numbers
-pub chosen_all : (r : Numbers) → are_numbers r ≡ true → command_of (choose_by r) ≡ C.Choose
+pub chosen_all : (r : Numbers) → are_numbers r ≡ true → command_of (choose_by r) ≡ Some C.Choose
 chosen_all (all_of ns) e = refl
 chosen_all not_all e = absurd (false≢true e)
 
-pub chosen_bad : (r : Numbers) → are_numbers r ≡ false → command_of (choose_by r) ≡ C.Bad
+pub chosen_bad : (r : Numbers) → are_numbers r ≡ false → command_of (choose_by r) ≡ None
 chosen_bad (all_of ns) e = cc
 chosen_bad not_all e = refl
 

@@ -1,5 +1,6 @@
 -- What a line can say: a row read's list is short, and which lines choose indexes.
 -- Assumes nothing.
+use Rattle.std.specs.Prelude.{Option, Some, None}
 use mathlib.Core.Path.{◌≡◌, refl, sym, ap, subst, ◌∙◌}
 use mathlib.Core.List.{List, [], ◌++◌}
 use mathlib.Core.Bool.{true, false}
@@ -12,8 +13,6 @@ use Rattle.ascii.specs.Text.{bytes, same, front}
 use Rattle.ascii.proofs.Cases.{by_test, either}
 use Rattle.ascii.proofs.Parts.{part_from}
 use Rattle.ascii.proofs.Same.{same_true}
-use Rattle.ascii.specs.declared.Found.{Found}
-use Rattle.ascii.specs.declared.Found.TheVariants.{At, Nothing}
 use Rattle.steps.specs.declared.Command.{Command}
 use Rattle.steps.specs.declared.Command.TheVariants as C
 use Rattle.steps.specs.Split.{parts}
@@ -22,22 +21,22 @@ use Rattle.steps.specs.Numbers.{Numbers, all_of, not_all, numbers}
 use Rattle.steps.specs.Line.{Says, row, row_by, seek_by, choose_by, is, begins, says, command_of, indexes_of}
 
 -- the bound of a row's cells
-abbrev RowOk : Command → Type 0
-RowOk C.ChooseAll = Unit {0}
-RowOk C.Choose = Unit {0}
-RowOk (C.Heap on) = Unit {0}
-RowOk C.Cell = Unit {0}
-RowOk (C.Row n) = n ≤ 512
-RowOk (C.Seek r) = Unit {0}
-RowOk C.Bad = Unit {0}
+abbrev RowOk : Option Command → Type 0
+RowOk (Some C.ChooseAll) = Unit {0}
+RowOk (Some C.Choose) = Unit {0}
+RowOk (Some (C.Heap on)) = Unit {0}
+RowOk (Some C.Cell) = Unit {0}
+RowOk (Some (C.Row n)) = n ≤ 512
+RowOk (Some (C.Seek r)) = Unit {0}
+RowOk None = Unit {0}
 
-row_by_lem : (f : Found) → RowOk (command_of (row_by f))
-row_by_lem (At n) = by_test (λ (x : Says). RowOk (command_of x)) (leb n 512) (λ t. leb-true n 512 t) (λ t. tt)
-row_by_lem Nothing = tt
+row_by_lem : (f : Option ℕ) → RowOk (command_of (row_by f))
+row_by_lem (Some n) = by_test (λ (x : Says). RowOk (command_of x)) (leb n 512) (λ t. leb-true n 512 t) (λ t. tt)
+row_by_lem None = tt
 
-seek_by_lem : (f : Found) → RowOk (command_of (seek_by f))
-seek_by_lem (At n) = tt
-seek_by_lem Nothing = tt
+seek_by_lem : (f : Option ℕ) → RowOk (command_of (seek_by f))
+seek_by_lem (Some n) = tt
+seek_by_lem None = tt
 
 choose_by_lem : (r : Numbers) → RowOk (command_of (choose_by r))
 choose_by_lem (all_of ns) = tt
@@ -55,7 +54,7 @@ row_ok s =
     (λ _. by_test P (is "heap on" s) (λ _. tt)
     (λ _. by_test P (is "heap off" s) (λ _. tt) (λ _. tt)))))))
 
-pub row_few : (s : List ℕ) (n : ℕ) → command_of (says s) ≡ C.Row n → n ≤ 512
+pub row_few : (s : List ℕ) (n : ℕ) → command_of (says s) ≡ Some (C.Row n) → n ≤ 512
 row_few s n e = subst RowOk e (row_ok s)
 
 pub row_says_few : (s : List ℕ) (n : ℕ) → says s ≡ row n → n ≤ 512
@@ -99,13 +98,13 @@ module _ (s : List ℕ) where
   pub indexes_part : begins "choose " s ≡ true → indexes_of (says s) ≡ indexes_of (choose_by (numbers (parts (take (length s - 7) (drop 7 s)))))
   indexes_part e = rw (part_from s 7) (indexes_choose e)
 
-  rows_none : (f : Found) → indexes_of (row_by f) ≡ []
-  rows_none (At n) = by_test (λ (x : Says). indexes_of x ≡ []) (leb n 512) (λ _. refl) (λ _. refl)
-  rows_none Nothing = refl
+  rows_none : (f : Option ℕ) → indexes_of (row_by f) ≡ []
+  rows_none (Some n) = by_test (λ (x : Says). indexes_of x ≡ []) (leb n 512) (λ _. refl) (λ _. refl)
+  rows_none None = refl
 
-  seeks_none : (f : Found) → indexes_of (seek_by f) ≡ []
-  seeks_none (At n) = refl
-  seeks_none Nothing = refl
+  seeks_none : (f : Option ℕ) → indexes_of (seek_by f) ≡ []
+  seeks_none (Some n) = refl
+  seeks_none None = refl
 
   pub indexes_other : begins "choose " s ≡ false → indexes_of (says s) ≡ []
   unfolding says

@@ -1,10 +1,8 @@
 -- What a line of a file of steps says (FORMAT.md, section 17).
 -- Assumes nothing.
-use Rattle.std.specs.Prelude.{ℕ, Bool, true, false, cond, List, [], ◌∷◌, length, take, drop, set, leb}
+use Rattle.std.specs.Prelude.{ℕ, Bool, true, false, cond, List, [], ◌∷◌, length, take, drop, set, leb, Option, Some, None}
 use Prim.Native.String.{String}
 use Rattle.ascii.specs.Text.{bytes, same}
-use Rattle.ascii.specs.declared.Found.{Found}
-use Rattle.ascii.specs.declared.Found.TheVariants.{At, Nothing}
 use Rattle.steps.specs.declared.Command.{Command}
 use Rattle.steps.specs.declared.Command.TheVariants as C
 use Rattle.steps.specs.Split.{parts}
@@ -25,13 +23,13 @@ pub data Says : Type 0 where
 abbrev pub row_limit : ℕ
 row_limit = 512
 
-abbrev pub row_by : Found → Says
-row_by (At n) = cond (leb n row_limit) (row n) bad
-row_by Nothing = bad
+abbrev pub row_by : Option ℕ → Says
+row_by (Some n) = cond (leb n row_limit) (row n) bad
+row_by None = bad
 
-abbrev pub seek_by : Found → Says
-seek_by (At n) = seek n
-seek_by Nothing = bad
+abbrev pub seek_by : Option ℕ → Says
+seek_by (Some n) = seek n
+seek_by None = bad
 
 abbrev pub choose_by : Numbers → Says
 choose_by (all_of ns) = choose ns
@@ -56,15 +54,15 @@ says s =
     (cond (is "heap on" s) (heap true)
     (cond (is "heap off" s) (heap false) bad))))))
 
--- what it says as the code has it, without the indexes
-abbrev pub command_of : Says → Command
-command_of choose_all = C.ChooseAll
-command_of (choose ns) = C.Choose
-command_of (heap on) = C.Heap on
-command_of cell = C.Cell
-command_of (row n) = C.Row n
-command_of (seek r) = C.Seek r
-command_of bad = C.Bad
+-- what it says as the code has it, without the indexes; none for a bad line
+abbrev pub command_of : Says → Option Command
+command_of choose_all = Some C.ChooseAll
+command_of (choose ns) = Some C.Choose
+command_of (heap on) = Some (C.Heap on)
+command_of cell = Some C.Cell
+command_of (row n) = Some (C.Row n)
+command_of (seek r) = Some (C.Seek r)
+command_of bad = None
 
 -- the indexes that a line chooses; none where it is no such line
 abbrev pub indexes_of : Says → List ℕ

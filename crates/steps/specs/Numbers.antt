@@ -1,8 +1,6 @@
 -- The numbers of a line (FORMAT.md, section 17).
 -- Assumes nothing.
-use Rattle.std.specs.Prelude.{ℕ, Bool, true, false, List, [], ◌∷◌}
-use Rattle.ascii.specs.declared.Found.{Found}
-use Rattle.ascii.specs.declared.Found.TheVariants.{At, Nothing}
+use Rattle.std.specs.Prelude.{ℕ, Bool, true, false, List, [], ◌∷◌, Option, Some, None}
 use Rattle.ascii.specs.Number.{number}
 
 -- some numbers, or a part that is none
@@ -10,10 +8,10 @@ pub data Numbers : Type 0 where
   all_of : List ℕ → Numbers
   not_all : Numbers
 
-abbrev pub with_first : Found → Numbers → Numbers
-with_first (At n) (all_of ns) = all_of (n ∷ ns)
-with_first (At n) not_all = not_all
-with_first Nothing r = not_all
+abbrev pub with_first : Option ℕ → Numbers → Numbers
+with_first (Some n) (all_of ns) = all_of (n ∷ ns)
+with_first (Some n) not_all = not_all
+with_first None r = not_all
 
 -- the numbers that some texts are
 unfoldable pub numbers : List (List ℕ) → Numbers

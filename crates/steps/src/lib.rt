@@ -10,12 +10,13 @@ ghost use Rattle.ascii.specs.Number.{number};
 ghost use Rattle.steps.specs.Numbers.{numbers};
 ghost use Rattle.steps.specs.Line.{says, row_by, seek_by, choose_all, choose_by, heap, bad, is, begins, command_of, indexes_of, in_places};
 
-use ascii::Found;
-
 // The byte that ends a line.
 const LINE_FEED: u8 = b'\n';
 
-// What a line says. The indexes that it chooses are had by `place_indexes`.
+// The most cells of a row read's list.
+const ROW_LIMIT: usize = 512;
+
+// What a line that is no bad one says. The indexes that it chooses are had by `place_indexes`.
 #[derive(Clone, Copy)]
 pub enum Command {
     ChooseAll,
@@ -24,7 +25,6 @@ pub enum Command {
     Cell,
     Row(usize),
     Seek(usize),
-    Bad,
 }
 
 // The length of the line at the front of a text, without its line feed.
@@ -61,11 +61,11 @@ pub fn line_feeds(text: &[u8]) -> usize
 }
 
 // What a line says.
-pub fn parse_command(line: &[u8]) -> Command
+pub fn parse_command(line: &[u8]) -> Option<Command>
     ensures { result ≡ command_of (says line.now) }
 {
     if ascii::same_bytes(line, b"cell") {
-        return Command::Cell;
+        return Some(Command::Cell);
     }
     if ascii::begins_with(line, b"row ") {
         return row_command(&line[4..]);
@@ -77,39 +77,32 @@ pub fn parse_command(line: &[u8]) -> Command
 }
 
 // `row` with this after it.
-fn row_command(text: &[u8]) -> Command
+fn row_command(text: &[u8]) -> Option<Command>
     ensures { result ≡ command_of (row_by (number text.now)) }
 {
-    match ascii::digits::parse_number(text) {
-        Found::At(n) => {
-            if n <= 512 {
-                Command::Row(n)
-            } else {
-                Command::Bad
-            }
-        }
-        Found::Nothing => Command::Bad,
+    let n = ascii::digits::parse_number(text)?;
+    if n <= ROW_LIMIT {
+        Some(Command::Row(n))
+    } else {
+        None
     }
 }
 
 // `seek` with this after it.
-fn seek_command(text: &[u8]) -> Command
+fn seek_command(text: &[u8]) -> Option<Command>
     ensures { result ≡ command_of (seek_by (number text.now)) }
 {
-    match ascii::digits::parse_number(text) {
-        Found::At(n) => Command::Seek(n),
-        Found::Nothing => Command::Bad,
-    }
+    Some(Command::Seek(ascii::digits::parse_number(text)?))
 }
 
 // A line that is no `cell`, `row` or `seek`.
-fn other_command(line: &[u8]) -> Command
+fn other_command(line: &[u8]) -> Option<Command>
     ensures { result ≡ command_of (cond (is "choose all" line.now) choose_all
         (cond (begins "choose " line.now) (choose_by (numbers (parts (drop 7 line.now))))
         (cond (is "heap on" line.now) (heap true) (cond (is "heap off" line.now) (heap false) bad)))) }
 {
     if ascii::same_bytes(line, b"choose all") {
-        return Command::ChooseAll;
+        return Some(Command::ChooseAll);
     }
     if ascii::begins_with(line, b"choose ") {
         return choose_command(&line[7..]);
@@ -118,27 +111,28 @@ fn other_command(line: &[u8]) -> Command
 }
 
 // `choose` with this after it.
-fn choose_command(text: &[u8]) -> Command
+fn choose_command(text: &[u8]) -> Option<Command>
     ensures { result ≡ command_of (choose_by (numbers (parts text.now))) }
 {
     if numbers::all_numbers(text) {
-        return Command::Choose;
+        return Some(Command::Choose);
     }
-    Command::Bad
+    None
 }
 
 // A line that is none of the others.
-fn heap_command(line: &[u8]) -> Command
+#[tactic(auto, unfolding(ascii::specs::Text::bytes))]
+fn heap_command(line: &[u8]) -> Option<Command>
     ensures { result ≡ command_of (cond (is "heap on" line.now) (heap true)
         (cond (is "heap off" line.now) (heap false) bad)) }
 {
     if ascii::same_bytes(line, b"heap on") {
-        return Command::Heap(true);
+        return Some(Command::Heap(true));
     }
     if ascii::same_bytes(line, b"heap off") {
-        return Command::Heap(false);
+        return Some(Command::Heap(false));
     }
-    Command::Bad
+    None
 }
 
 // The indexes that a line chooses, each to the place of the list that it names. One that names no place is left

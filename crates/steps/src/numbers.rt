@@ -3,10 +3,8 @@ ghost use Rattle.std.specs.Prelude.{◌≡◌, ◌≤◌, ◌<◌, ◌+◌, drop
 ghost use Rattle.steps.specs.Split.{before, parts};
 ghost use Rattle.steps.specs.Numbers.{numbers, are_numbers};
 ghost use Rattle.steps.specs.Line.{choose_by, indexes_of, in_places};
-ghost use Rattle.ascii.specs.declared.Found.TheVariants.{At, Nothing};
 
 use super::words;
-use ascii::Found;
 
 // The end of the part of a text that begins at a place.
 fn part_end(text: &[u8], at: usize) -> usize
@@ -25,10 +23,10 @@ pub fn all_numbers(text: &[u8]) -> bool
     while at <= text.len() {
         let end = part_end(text, at);
         match ascii::digits::parse_number(&text[at..end]) {
-            Found::At(_) => {
+            Some(_) => {
                 at = end + 1;
             }
-            Found::Nothing => {
+            None => {
                 return false;
             }
         }
@@ -54,11 +52,11 @@ pub fn place_numbers(text: &[u8], list: &mut [usize])
     while at <= text.len() {
         let end = part_end(text, at);
         match ascii::digits::parse_number(&text[at..end]) {
-            Found::At(n) => {
+            Some(n) => {
                 place_number(list, n);
                 at = end + 1;
             }
-            Found::Nothing => {
+            None => {
                 return;
             }
         }

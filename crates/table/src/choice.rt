@@ -1,13 +1,12 @@
 // The choice of a cursor, and opening.
 ghost use Rattle.std.specs.Prelude.{◌≡◌, cond, ◌+◌, ◌*◌, ◌≤◌, ◌<◌, ltb};
 ghost use Rattle.tform.specs.Width.{among};
-ghost use Rattle.refusal.specs.declared.Check.TheVariants.{Refused};
 ghost use Rattle.walk.specs.Plain.{chosen};
 ghost use Rattle.walk.specs.Walk.{start};
-ghost use Rattle.walk.specs.Step.{all_columns, listed, choice_from, cursor_at, no_cursor, opened, not_opened, opening_of};
+ghost use Rattle.walk.specs.Step.{all_columns, listed, choice_from, cursor_at, opened, not_opened, opening_of};
 
-use refusal::{Check, Refusal};
-use walk::{Opened, TableData};
+use refusal::Refusal;
+use walk::TableData;
 
 // Whether column c is in the choice.
 pub fn chosen(choice: u64, c: usize) -> bool
@@ -67,38 +66,18 @@ pub fn listed_columns(tfields: usize, cols: &[usize]) -> u64
     choice
 }
 
-// Beside a refusal stands the empty cursor.
-pub fn refused(refusal: Refusal) -> Opened
-    ensures check { result.check ≡ Refused refusal }
-    ensures cursor { result.cursor ≡ no_cursor }
-{
-    Opened {
-        cursor: TableData {
-            choice: 0,
-            heap: false,
-            row: 0,
-            passed: 0,
-            count: 0,
-        },
-        check: Check::Refused(refusal),
-    }
-}
-
 // A cursor with this choice, if it has a column.
-pub fn opened(choice: u64, heap: bool) -> Opened
+pub fn opened(choice: u64, heap: bool) -> Result<TableData, Refusal>
     ensures { opening_of result ≡ cond (ltb 0 choice) (opened (cursor_at choice heap start)) (not_opened 11) }
 {
     if choice == 0 {
-        return refused(Refusal::NoColumn);
+        return Err(Refusal::NoColumn);
     }
-    Opened {
-        cursor: TableData {
-            choice,
-            heap,
-            row: 0,
-            passed: 0,
-            count: 0,
-        },
-        check: Check::Passed,
-    }
+    Ok(TableData {
+        choice,
+        heap,
+        row: 0,
+        passed: 0,
+        count: 0,
+    })
 }

@@ -9,42 +9,48 @@ mod rows;
 mod scan;
 mod step;
 
-ghost use Rattle.std.specs.Prelude.{◌≡◌, []};
+ghost use Rattle.std.specs.Prelude.{◌≡◌};
 ghost use Rattle.walk.specs.Walk.{read_cell, seek};
 ghost use Rattle.walk.specs.Plain.{chosen};
-ghost use Rattle.walk.specs.Step.{all_columns, listed, belongs, open_with, opening_of, cursor_step, result_of};
+ghost use Rattle.walk.specs.Step.{all_columns, listed, belongs, open_with, opening_of, cursor_step, cell_result, seek_result};
 
+use cell::Cell;
 use layout::{BinTable, TFIELDS_LIMIT};
 use refusal::Refusal;
 use scan::Scan;
-use walk::{Answer, Opened, Stepped, TableData};
+use walk::{Stepped, TableData};
 
 // A cursor on all columns, at the start of the table. Refused with 10 if the layout and the area do not belong
-// together, then with 11 if there is no column; beside a refusal stands the empty cursor.
-pub fn open(layout: BinTable, area: &[u8], heap: bool) -> Opened
+// together, then with 11 if there is no column.
+pub fn open(layout: BinTable, area: &[u8], heap: bool) -> Result<TableData, Refusal>
     ensures { opening_of result ≡ open_with layout area.now all_columns heap }
 {
     if belong::fits(layout, area) {
         return choice::opened(choice::all_columns(layout.tfields), heap);
     }
-    choice::refused(Refusal::Mismatch)
+    Err(Refusal::Mismatch)
 }
 
 // A cursor on the columns that are listed by their indexes from 0. Unknown ones are dropped and a repeated one
 // counts once; the order is always that of the table. Refused as `open` is.
-pub fn select_fields(layout: BinTable, area: &[u8], cols: &[usize], heap: bool) -> Opened
+pub fn select_fields(
+    layout: BinTable,
+    area: &[u8],
+    cols: &[usize],
+    heap: bool,
+) -> Result<TableData, Refusal>
     ensures { opening_of result ≡ open_with layout area.now (listed cols.now) heap }
 {
     if belong::fits(layout, area) {
         return choice::opened(choice::listed_columns(layout.tfields, cols), heap);
     }
-    choice::refused(Refusal::Mismatch)
+    Err(Refusal::Mismatch)
 }
 
-// The cell read: the next cell, the end, or refusal 13 at an array outside the heap. Refused with 10 first, if the
+// The cell read: the next cell, none at the end, or refusal 13 at an array outside the heap. Refused with 10 first, if the
 // cursor does not belong to the layout and the area. A refusal returns the cursor that it got.
-pub fn next(layout: BinTable, area: &[u8], cursor: TableData) -> Stepped
-    ensures { result_of result [] ≡ cursor_step layout area.now cursor read_cell }
+pub fn next(layout: BinTable, area: &[u8], cursor: TableData) -> Stepped<Option<Cell>>
+    ensures { cell_result result.cursor result.answer ≡ cursor_step layout area.now cursor read_cell }
 {
     // One pass over the columns gives the entry of the cursor's row. Where it gives none, the calls of `step` tell why.
     if pass::ready(
@@ -107,15 +113,15 @@ pub fn next(layout: BinTable, area: &[u8], cursor: TableData) -> Stepped
 }
 
 // The seek: to the start of a row, or refusal 12 if there is no such row. Refused with 10 first, as `next` is.
-pub fn seek_to_row(layout: BinTable, area: &[u8], cursor: TableData, row: usize) -> Stepped
-    ensures { result_of result [] ≡ cursor_step layout area.now cursor (seek row) }
+pub fn seek_to_row(layout: BinTable, area: &[u8], cursor: TableData, row: usize) -> Stepped<()>
+    ensures { seek_result result.cursor result.answer ≡ cursor_step layout area.now cursor (seek row) }
 {
     if belong::belongs(layout, area, cursor) {
         return step::seek(layout.naxis2, cursor, row);
     }
     Stepped {
         cursor,
-        answer: Answer::Refused(Refusal::Mismatch),
+        answer: Err(Refusal::Mismatch),
     }
 }
 

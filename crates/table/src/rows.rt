@@ -17,9 +17,10 @@ use walk::{Entry, TableData};
 
 // The place of the next entry, and how many entries its row has.
 #[derive(Clone, Copy)]
-pub enum NextPlace {
-    At { row: u64, passed: u64, size: u64 },
-    Nothing,
+pub struct NextPlace {
+    pub row: u64,
+    pub passed: u64,
+    pub size: u64,
 }
 
 // How many entries a field at a place has, by reading it. The loops of the long way call it too, so that `column_size`
@@ -195,27 +196,27 @@ pub fn find_entry(
     heap: bool,
     row: u64,
     passed: u64,
-) -> NextPlace
+) -> Option<NextPlace>
     requires { fits layout area.now ≡ true }
     ensures { result ≡ next_place (row_entries layout area.now choice heap)
         (next (row_entries layout area.now choice heap) layout.naxis2 (layout.naxis2 - row) row passed) }
 {
     if !any_items(layout, choice) {
-        return NextPlace::Nothing;
+        return None;
     }
     let mut r = row;
     let mut p = passed;
     while r < layout.naxis2 {
         let size = row_size(layout, area, choice, heap, r);
         if p < size {
-            return NextPlace::At {
+            return Some(NextPlace {
                 row: r,
                 passed: p,
                 size,
-            };
+            });
         }
         p = 0;
         r += 1;
     }
-    NextPlace::Nothing
+    None
 }

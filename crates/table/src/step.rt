@@ -1,14 +1,15 @@
 // The steps of a cursor that belongs.
-ghost use Rattle.std.specs.Prelude.{◌≡◌, true, [], ◌<◌};
+ghost use Rattle.std.specs.Prelude.{◌≡◌, true, ◌<◌};
 ghost use Rattle.layout.specs.Layout.{naxis2_limit};
 ghost use Rattle.walk.specs.Walk.{read_cell, placed, grown, pass, entry_outcome, seek_outcome};
-ghost use Rattle.walk.specs.Step.{belongs, state_of, cursor_at, with_cursor, cursor_step, result_of};
+ghost use Rattle.walk.specs.Step.{belongs, state_of, cursor_at, with_cursor, cursor_step, cell_result, seek_result};
 
 use super::rows::NextPlace;
 use super::{belong, rows};
+use cell::Cell;
 use layout::BinTable;
 use refusal::Refusal;
-use walk::{Answer, Entry, Stepped, TableData};
+use walk::{Entry, Stepped, TableData};
 
 // The cursor at another place.
 fn placed(cursor: TableData, row: u64, passed: u64) -> TableData
@@ -48,27 +49,33 @@ fn pass(cursor: TableData, row: u64, passed: u64, size: u64) -> TableData
 }
 
 // A cell read at an entry.
-pub fn read_entry(cursor: TableData, row: u64, passed: u64, size: u64, entry: Entry) -> Stepped
+pub fn read_entry(
+    cursor: TableData,
+    row: u64,
+    passed: u64,
+    size: u64,
+    entry: Entry,
+) -> Stepped<Option<Cell>>
     requires { (row < naxis2_limit) × (passed < size) }
-    ensures { result_of result [] ≡ with_cursor cursor.choice cursor.heap
+    ensures { cell_result result.cursor result.answer ≡ with_cursor cursor.choice cursor.heap
         (entry_outcome (state_of cursor) size row passed entry) }
 {
     match entry {
         Entry::Cell(cell) => Stepped {
             cursor: pass(grown(cursor), row, passed, size),
-            answer: Answer::Cell(cell),
+            answer: Ok(Some(cell)),
         },
         Entry::OutsideHeap { column } => Stepped {
             cursor,
-            answer: Answer::Refused(Refusal::ArrayOutsideHeap { column }),
+            answer: Err(Refusal::ArrayOutsideHeap { column }),
         },
     }
 }
 
 // A cell read of a cursor that belongs.
-fn read_cell(layout: BinTable, area: &[u8], cursor: TableData) -> Stepped
+fn read_cell(layout: BinTable, area: &[u8], cursor: TableData) -> Stepped<Option<Cell>>
     requires { belongs layout area.now cursor ≡ true }
-    ensures { result_of result [] ≡ cursor_step layout area.now cursor read_cell }
+    ensures { cell_result result.cursor result.answer ≡ cursor_step layout area.now cursor read_cell }
 {
     let place = rows::find_entry(
         layout,
@@ -78,43 +85,41 @@ fn read_cell(layout: BinTable, area: &[u8], cursor: TableData) -> Stepped
         cursor.row,
         cursor.passed,
     );
-    match place {
-        NextPlace::At { row, passed, size } => {
-            let entry = rows::entry_at(layout, area, cursor.choice, cursor.heap, row, passed);
-            read_entry(cursor, row, passed, size, entry)
-        }
-        NextPlace::Nothing => Stepped {
+    let Some(NextPlace { row, passed, size }) = place else {
+        return Stepped {
             cursor: placed(cursor, layout.naxis2, 0),
-            answer: Answer::End,
-        },
-    }
+            answer: Ok(None),
+        };
+    };
+    let entry = rows::entry_at(layout, area, cursor.choice, cursor.heap, row, passed);
+    read_entry(cursor, row, passed, size, entry)
 }
 
 // A cell read: refused with 10 if the cursor does not belong.
-pub fn next(layout: BinTable, area: &[u8], cursor: TableData) -> Stepped
-    ensures { result_of result [] ≡ cursor_step layout area.now cursor read_cell }
+pub fn next(layout: BinTable, area: &[u8], cursor: TableData) -> Stepped<Option<Cell>>
+    ensures { cell_result result.cursor result.answer ≡ cursor_step layout area.now cursor read_cell }
 {
     if belong::belongs(layout, area, cursor) {
         return read_cell(layout, area, cursor);
     }
     Stepped {
         cursor,
-        answer: Answer::Refused(Refusal::Mismatch),
+        answer: Err(Refusal::Mismatch),
     }
 }
 
 // A seek of a cursor that belongs to a table of naxis2 rows.
-pub fn seek(naxis2: u64, cursor: TableData, row: usize) -> Stepped
-    ensures { result_of result [] ≡ with_cursor cursor.choice cursor.heap (seek_outcome naxis2 (state_of cursor) row) }
+pub fn seek(naxis2: u64, cursor: TableData, row: usize) -> Stepped<()>
+    ensures { seek_result result.cursor result.answer ≡ with_cursor cursor.choice cursor.heap (seek_outcome naxis2 (state_of cursor) row) }
 {
     if (row as u64) < naxis2 {
         return Stepped {
             cursor: placed(cursor, row as u64, 0),
-            answer: Answer::Sought,
+            answer: Ok(()),
         };
     }
     Stepped {
         cursor,
-        answer: Answer::Refused(Refusal::NoSuchRow { row }),
+        answer: Err(Refusal::NoSuchRow { row }),
     }
 }

@@ -1,202 +1,184 @@
-// The numbers and the blocks of the file.
-ghost use Rattle.std.specs.Prelude.{◌<◌, ◌≤◌, length};
+// A case and its steps, made from their bytes in the file.
+use layout::BinTable;
+use refusal::Refusal;
+use std::alloc::{AllocError, Global};
+use walk::TableData;
 
-// The bound is for sums and products of bytes, which must fit.
-fn wide(byte: u8) -> usize
-    ensures { result < 256 }
-{
-    byte as usize
-}
+const RECORD_LEN: usize = 80;
+
+const KEPT_LEN: usize = 24;
+
+const STEP_LEN: usize = 18;
+
+// The most indexes of columns, and the most cells of a row read's list.
+const INDEX_LIMIT: usize = 128;
+
+const LIST_LIMIT: usize = 512;
 
 // The number that the first four bytes say, or 0 where there are fewer.
-pub fn number_of(bytes: &[u8]) -> usize
-    ensures { result < 4294967296 }
-{
-    if bytes.len() < 4 {
-        return 0;
-    }
-    let high = wide(bytes[0]) * 256 + wide(bytes[1]);
-    let low = wide(bytes[2]) * 256 + wide(bytes[3]);
-    high * 65536 + low
+fn number_of(bytes: &[u8]) -> u32 {
+    case_file::split_number(bytes).map_or(0, |(number, _)| number)
 }
 
-// The number that the first eight bytes say, or 0 where there are fewer.
-pub fn long_of(bytes: &[u8]) -> usize {
-    if bytes.len() < 8 {
-        return 0;
-    }
-    let high = number_of(bytes);
-    let low = number_of(&bytes[4..]);
-    high * 4294967296 + low
-}
-
-// The first bytes, so many at most.
-fn front_of(bytes: &[u8], most: usize) -> &[u8] {
-    if bytes.len() < most {
-        return bytes;
-    }
-    &bytes[..most]
-}
-
-// The bytes of a block at the front, with its length before it; 0 where it is cut short.
-pub fn sized_len(rest: &[u8]) -> usize
-    ensures { result ≤ length rest.now }
-{
-    if rest.len() < 4 {
-        return 0;
-    }
-    let len = number_of(rest) + 4;
-    if rest.len() < len {
-        return 0;
-    }
-    len
-}
-
-// What is in the block at the front, nothing where it is cut short.
-pub fn content(rest: &[u8]) -> &[u8] {
-    let len = sized_len(rest);
-    if len < 4 {
-        return &rest[..0];
-    }
-    &rest[4..len]
-}
-
-fn block_start(body: &[u8], k: usize) -> usize
-    ensures { result ≤ length body.now }
-{
-    let mut at: usize = 0;
-    let mut i: usize = 0;
-    while i < k {
-        at += sized_len(&body[at..]);
-        i += 1;
-    }
-    at
-}
-
-// What is in block k, from 0.
-pub fn block(body: &[u8], k: usize) -> &[u8] {
-    let start = block_start(body, k);
-    content(&body[start..])
+// The block at the front and what stands after it; nothing of either is taken where the block is cut short.
+fn split_block(bytes: &[u8]) -> (&[u8], &[u8]) {
+    case_file::split_block(bytes).unwrap_or((&[], bytes))
 }
 
 // The byte at a place, 0 where there is none.
-pub fn byte_at(bytes: &[u8], at: usize) -> usize
-    ensures { result < 256 }
-{
-    if bytes.len() <= at {
-        return 0;
-    }
-    wide(bytes[at])
+fn byte_at(bytes: &[u8], at: usize) -> u8 {
+    bytes.get(at).copied().unwrap_or(0)
 }
 
 // What stands from a place on, all where the place is past the end.
-pub fn from(bytes: &[u8], start: usize) -> &[u8] {
-    if bytes.len() < start {
-        return bytes;
-    }
-    &bytes[start..]
+fn from(bytes: &[u8], start: usize) -> &[u8] {
+    bytes.get(start..).unwrap_or(bytes)
 }
 
-// The part of the areas that eight bytes name: its place and its length.
-pub fn lent<'a>(areas: &'a [u8], bytes: &[u8]) -> &'a [u8] {
-    let start = number_of(bytes);
-    let len = number_of(from(bytes, 4));
-    front_of(from(areas, start), len)
+// The part of the areas that eight bytes name: its place and its length, cut at the end of the areas.
+fn lent<'a>(areas: &'a [u8], bytes: &[u8]) -> &'a [u8] {
+    let len = number_of(from(bytes, 4)) as usize;
+    let rest = from(areas, number_of(bytes) as usize);
+    rest.get(..len).unwrap_or(rest)
 }
 
-// The header's length, none where it has more than three blocks.
-pub fn header_len(settings: &[u8]) -> usize
-    ensures { result ≤ 8640 }
-{
-    let blocks = byte_at(settings, 0);
-    if 3 < blocks {
-        return 0;
-    }
-    blocks * 2880
-}
-
-// Byte k of a header of which 24 bytes of each record are kept.
-fn header_byte(kept: &[u8], k: usize) -> u8 {
-    if 24 <= k % 80 {
-        return 32;
-    }
-    let at = k / 80 * 24 + k % 80;
-    if kept.len() <= at {
-        return 32;
-    }
-    kept[at]
-}
-
-pub fn fill_header(header: &mut [u8], kept: &[u8]) {
-    let mut k: usize = 0;
-    while k < header.len() {
-        header[k] = header_byte(kept, k);
-        k += 1;
+// The length of a header of so many blocks, none where they are more than three.
+fn header_len(blocks: u8) -> usize {
+    if blocks <= 3 {
+        usize::from(blocks) * 2880
+    } else {
+        0
     }
 }
 
-// How many indexes there are, 128 at most.
-pub fn index_count(indexes: &[u8]) -> usize
-    ensures { result ≤ 128 }
-{
-    let n = indexes.len() / 8;
-    if 128 < n {
-        return 128;
+#[derive(Clone, Copy)]
+pub struct TableCase<'a> {
+    header_len: usize,
+    // The front of each record of the header.
+    kept: &'a [u8],
+    // What the entry is lent, and what the opening is.
+    pub entry: &'a [u8],
+    opening: &'a [u8],
+    heap: bool,
+    // The indexes of the chosen columns, if they are not all.
+    indexes: Option<&'a [u8]>,
+    // Each step is lent a part of these.
+    pub areas: &'a [u8],
+    steps: &'a [u8],
+}
+
+impl<'a> TableCase<'a> {
+    pub fn new(body: &'a [u8]) -> Self {
+        let (settings, rest) = split_block(body);
+        let (kept, rest) = split_block(rest);
+        let (areas, rest) = split_block(rest);
+        let (indexes, rest) = split_block(rest);
+        let (steps, _) = split_block(rest);
+        TableCase {
+            header_len: header_len(byte_at(settings, 0)),
+            kept,
+            entry: lent(areas, from(settings, 3)),
+            opening: lent(areas, from(settings, 11)),
+            heap: byte_at(settings, 2) == 1,
+            indexes: (byte_at(settings, 1) == 1).then_some(indexes),
+            areas,
+            steps,
+        }
     }
-    n
-}
 
-// Index k, 0 where there are fewer.
-fn index_at(indexes: &[u8], k: usize) -> usize {
-    if indexes.len() / 8 <= k {
-        return 0;
+    // The header, with spaces for what is not kept.
+    pub fn header(&self, alloc: Global) -> Result<Vec<u8>, AllocError> {
+        let mut header = Vec::new(alloc);
+        for kept in self.kept.chunks(KEPT_LEN) {
+            let mut record = [b' '; RECORD_LEN];
+            for (place, byte) in record.iter_mut().zip(kept) {
+                *place = *byte;
+            }
+            header.extend_from_slice(&record)?;
+        }
+        header.resize(self.header_len, b' ')?;
+        Ok(header)
     }
-    let at = k * 8;
-    long_of(&indexes[at..])
-}
 
-pub fn fill_indexes(list: &mut [usize], indexes: &[u8]) {
-    let mut k: usize = 0;
-    while k < list.len() {
-        list[k] = index_at(indexes, k);
-        k += 1;
+    // The cursor on the chosen columns, or what refuses the opening.
+    pub fn open(
+        &self,
+        alloc: Global,
+        layout: BinTable,
+    ) -> Result<Result<TableData, Refusal>, AllocError> {
+        let Some(indexes) = self.indexes else {
+            return Ok(table::open(layout, self.opening, self.heap));
+        };
+        let (indexes, _) = indexes.as_chunks::<8>();
+        let columns: Vec<usize> = indexes
+            .iter()
+            .take(INDEX_LIMIT)
+            .map(|index| usize::from_be_bytes(*index))
+            .collect(alloc)?;
+        Ok(table::select_fields(layout, self.opening, columns.as_slice(), self.heap))
+    }
+
+    pub fn steps(&self) -> &'a [[u8; STEP_LEN]] {
+        let (steps, _) = self.steps.as_chunks();
+        steps
     }
 }
 
-// The 18 bytes of step k and what follows them, nothing where there are fewer.
-pub fn step_at(steps: &[u8], k: usize) -> &[u8] {
-    if steps.len() / 18 <= k {
-        return &steps[..0];
+// What a step calls.
+#[derive(Clone, Copy)]
+pub enum Call {
+    Cell,
+    Seek { row: usize },
+    // With a list of so many cells.
+    Row { len: usize },
+}
+
+#[derive(Clone, Copy)]
+pub enum Step<'a> {
+    // The cursor gets a place and a count.
+    Put {
+        row: u64,
+        passed: u64,
+        count: u32,
+    },
+    // The cursor gets a choice: column c is in it if bit c is set.
+    Choose(u64),
+    // A call is made so many times, over a lent cursor or by value, with the area that it is lent.
+    Call {
+        call: Call,
+        over_lent: bool,
+        times: u8,
+        area: &'a [u8],
+    },
+}
+
+impl<'a> Step<'a> {
+    pub fn new(bytes: &[u8; STEP_LEN], areas: &'a [u8]) -> Self {
+        let kind = bytes[0];
+        let (number, named) = bytes[2..].split_first_chunk().unwrap();
+        let number = u64::from_be_bytes(*number);
+        let call = match kind % 128 {
+            1 => Call::Seek {
+                row: number as usize,
+            },
+            2 => {
+                return Step::Put {
+                    row: number,
+                    passed: u64::from(number_of(named)),
+                    count: number_of(from(named, 4)),
+                };
+            }
+            3 => return Step::Choose(number),
+            4 => Call::Row {
+                len: LIST_LIMIT.min(number as usize),
+            },
+            _ => Call::Cell,
+        };
+        Step::Call {
+            call,
+            over_lent: 128 <= kind,
+            times: bytes[1],
+            area: lent(areas, named),
+        }
     }
-    let at = k * 18;
-    &steps[at..]
-}
-
-// The kind of a step, without the part that says how its cursor is handed over.
-pub fn kind(step: &[u8]) -> usize {
-    byte_at(step, 0) % 128
-}
-
-pub fn over_lent(step: &[u8]) -> bool {
-    128 <= byte_at(step, 0)
-}
-
-// Whether the step gives the cursor a place or a choice, and calls nothing.
-pub fn puts(step: &[u8]) -> bool {
-    let kind = kind(step);
-    kind == 2 || kind == 3
-}
-
-// The row of a step, or what stands in its place.
-pub fn row(step: &[u8]) -> usize {
-    long_of(from(step, 2))
-}
-
-// The length of a row read's list, 512 at most.
-pub fn list_len(step: &[u8]) -> usize {
-    let n = row(step);
-    if 512 < n {
-        return 512;
-    }
-    n
 }

@@ -1,5 +1,6 @@
 -- The count of a form: capped, it is still within the limit of the form just where the exact one is.
 -- Assumes nothing.
+use Rattle.std.specs.Prelude.{Option, Some, None}
 use mathlib.Core.Path.{◌≡◌, refl}
 use mathlib.Core.List.{List}
 use mathlib.Core.Bool.{true, cond}
@@ -14,9 +15,6 @@ use Rattle.ascii.proofs.Cases.{either, by_test}
 use Rattle.tform.specs.declared.TFormType.{TFormType}
 use Rattle.tform.specs.declared.TFormType.TheVariants.{Items, P, Q}
 use Rattle.tform.specs.declared.TForm.{TForm}
-use Rattle.tform.specs.declared.TForm.TheVariants.{Valid, Invalid}
-use Rattle.tform.specs.declared.parsing.Kind.{Kind}
-use Rattle.tform.specs.declared.parsing.Kind.TheVariants.{Is, Unknown}
 use Rattle.tform.specs.Width.{count_limit, count_ok}
 use Rattle.tform.specs.Form.{repeat_count, kind_of, counted, form_of}
 
@@ -35,12 +33,12 @@ limit_bound (P e) = omega arith
 limit_bound (Q e) = omega arith
 
 -- a form with the count capped
-counted_capped : (n : ℕ) (k : Kind) → counted (min 8388609 n) k ≡ counted n k
-counted_capped n (Is f) =
+counted_capped : (n : ℕ) (k : Option TFormType) → counted (min 8388609 n) k ≡ counted n k
+counted_capped n (Some f) =
     either (leb n (count_limit f))
     (λ e. let q : min 8388609 n ≡ n = omega (arith, leb-true n (count_limit f) e, limit_bound f) in rw q)
     (λ e. rw (e, lt-leb (min 8388609 n) (count_limit f) (omega (arith, leb-false n (count_limit f) e, limit_bound f))))
-counted_capped n Unknown = refl
+counted_capped n None = refl
 
 pub form_capped : (s : List ℕ) → counted (capped_count s) (kind_of (drop (front digit s) s)) ≡ form_of s
 unfolding form_of
@@ -51,23 +49,23 @@ pub count_bound : (f : TFormType) (n : ℕ) → count_ok f n ≡ true → n ≤ 
 count_bound f n e = le_trans (leb-true n (count_limit f) e) (limit_bound f)
 
 -- the form of a text whose letters are those of f: bad just where the count is above the limit, 1 for P and Q
-module _ (s : List ℕ) (f : TFormType) (is : kind_of (drop (front digit s) s) ≡ Is f) where
-  pub good_count : repeat_count s ≤ count_limit f → form_of s ≡ Valid f (repeat_count s)
+module _ (s : List ℕ) (f : TFormType) (is : kind_of (drop (front digit s) s) ≡ Some f) where
+  pub good_count : repeat_count s ≤ count_limit f → form_of s ≡ Some (record { form = f; count = repeat_count s })
   unfolding form_of
   good_count h = rw (is, le-leb (repeat_count s) (count_limit f) h)
 
-  pub bad_count : count_limit f < repeat_count s → form_of s ≡ Invalid
+  pub bad_count : count_limit f < repeat_count s → form_of s ≡ None
   unfolding form_of
   bad_count h = rw (is, lt-leb (repeat_count s) (count_limit f) h)
 
 -- the count of a form that is read is within its limit
-abbrev pub CountOk : TForm → Type 0
-CountOk (Valid f n) = count_ok f n ≡ true
-CountOk Invalid = Unit {0}
+abbrev pub CountOk : Option TForm → Type 0
+CountOk (Some t) = count_ok t.form t.count ≡ true
+CountOk None = Unit {0}
 
-counted_ok : (n : ℕ) (k : Kind) → CountOk (counted n k)
-counted_ok n (Is f) = by_test CountOk (count_ok f n) (λ e. e) (λ e. tt)
-counted_ok n Unknown = tt
+counted_ok : (n : ℕ) (k : Option TFormType) → CountOk (counted n k)
+counted_ok n (Some f) = by_test CountOk (count_ok f n) (λ e. e) (λ e. tt)
+counted_ok n None = tt
 
 pub form_ok : (s : List ℕ) → CountOk (form_of s)
 unfolding form_of

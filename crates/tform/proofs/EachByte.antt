@@ -1,15 +1,13 @@
 -- Each of the 256 bytes that can stand for a form's letter has the width that the constant table gave it, from which the code took widths
 -- until it worked them out by cases. A form begins with a byte just where its width is not 0, as before.
 -- Assumes nothing.
-use Rattle.std.proofs.Common.{◌≡◌, refl, ℕ, suc, ◌<◌, Bool, true, false, ◌||◌, cond, eqb, List, [], ◌∷◌, ◌++◌, replicate, get_or, zero-add, ne_eqb, arith}
+use Rattle.std.proofs.Common.{◌≡◌, refl, ℕ, suc, ◌<◌, Bool, true, false, ◌||◌, cond, eqb, List, [], ◌∷◌, ◌++◌, replicate, get_or, zero-add, ne_eqb, arith, Option, Some, None}
 use borrow.Author.Tests.{eqb-true}
 use Rattle.ascii.specs.Text.{bytes}
 use Rattle.tform.specs.declared.VariableArrayTy.{VariableArrayTy}
 use Rattle.tform.specs.declared.VariableArrayTy.TheVariants.{L, X, B, I, J, K, A, E, D, C, M}
 use Rattle.tform.specs.declared.TFormType.{TFormType}
 use Rattle.tform.specs.declared.TFormType.TheVariants.{P, Q}
-use Rattle.tform.specs.declared.parsing.Kind.{Kind}
-use Rattle.tform.specs.declared.parsing.Kind.TheVariants.{Is, Unknown}
 use Rattle.tform.specs.Width.{among, letter, form_letter, letter_width}
 use Rattle.tform.specs.Form.{element_among, element_of, first_element, kind_of}
 use Rattle.tform.proofs.Tables.{every, every_at}
@@ -29,27 +27,27 @@ table_width b = get_or table_widths b 0
 -- follows; and that P and Q, followed by the letter of an element, are the descriptor that carries it
 pub record AsBefore (b : ℕ) : Type 0 where
   pub width : letter_width b ≡ table_width b
-  pub bad : table_width b ≡ 0 → (rest : List ℕ) → kind_of (b ∷ rest) ≡ Unknown
-  pub plain : 0 < table_width b → eqb b 80 || eqb b 81 ≡ false → (rest : List ℕ) → (f : TFormType) × (kind_of (b ∷ rest) ≡ Is f) × (form_letter f ≡ b)
-  pub p : b ≡ 80 → (e : VariableArrayTy) (rest : List ℕ) → kind_of (b ∷ letter e ∷ rest) ≡ Is (P e)
-  pub q : b ≡ 81 → (e : VariableArrayTy) (rest : List ℕ) → kind_of (b ∷ letter e ∷ rest) ≡ Is (Q e)
+  pub bad : table_width b ≡ 0 → (rest : List ℕ) → kind_of (b ∷ rest) ≡ None
+  pub plain : 0 < table_width b → eqb b 80 || eqb b 81 ≡ false → (rest : List ℕ) → (f : TFormType) × (kind_of (b ∷ rest) ≡ Some f) × (form_letter f ≡ b)
+  pub p : b ≡ 80 → (e : VariableArrayTy) (rest : List ℕ) → kind_of (b ∷ letter e ∷ rest) ≡ Some (P e)
+  pub q : b ≡ 81 → (e : VariableArrayTy) (rest : List ℕ) → kind_of (b ∷ letter e ∷ rest) ≡ Some (Q e)
 
 -- one more than the letter of a form, 0 for a bad one
-abbrev letter_of : Kind → ℕ
-letter_of (Is f) = suc (form_letter f)
-letter_of Unknown = 0
+abbrev letter_of : Option TFormType → ℕ
+letter_of (Some f) = suc (form_letter f)
+letter_of None = 0
 
-abbrev is_unknown : Kind → Bool
-is_unknown (Is f) = false
-is_unknown Unknown = true
+abbrev is_unknown : Option TFormType → Bool
+is_unknown (Some f) = false
+is_unknown None = true
 
-is_unknown_lem : (k : Kind) → is_unknown k ≡ true → k ≡ Unknown
-is_unknown_lem (Is f) e = cc
-is_unknown_lem Unknown e = refl
+is_unknown_lem : (k : Option TFormType) → is_unknown k ≡ true → k ≡ None
+is_unknown_lem (Some f) e = cc
+is_unknown_lem None e = refl
 
-is_form : (k : Kind) (b : ℕ) → letter_of k ≡ suc b → (f : TFormType) × (k ≡ Is f) × (form_letter f ≡ b)
-is_form (Is f) b e = (f, refl, omega arith)
-is_form Unknown b e = absurd (omega arith)
+is_form : (k : Option TFormType) (b : ℕ) → letter_of k ≡ suc b → (f : TFormType) × (k ≡ Some f) × (form_letter f ≡ b)
+is_form (Some f) b e = (f, refl, omega arith)
+is_form None b e = absurd (omega arith)
 
 -- the three tests of a byte b, of which the table has x
 width_test : ℕ → ℕ → Bool
@@ -68,12 +66,12 @@ passes : (f : ℕ → ℕ → Bool) → every f 0 table_widths ≡ true → (b :
 unfolding table_widths
 passes f t b h = rw zero-add at (every_at f table_widths 0 t b h)
 
-bad_of : (rest : List ℕ) (b x : ℕ) → bad_test rest b x ≡ true → x ≡ 0 → kind_of (b ∷ rest) ≡ Unknown
+bad_of : (rest : List ℕ) (b x : ℕ) → bad_test rest b x ≡ true → x ≡ 0 → kind_of (b ∷ rest) ≡ None
 unfolding bad_test
 bad_of rest b x t e = is_unknown_lem (kind_of (b ∷ rest)) (rw e at t)
 
 plain_of : (rest : List ℕ) (b x : ℕ) → plain_test rest b x ≡ true → 0 < x → eqb b 80 || eqb b 81 ≡ false
-    → (f : TFormType) × (kind_of (b ∷ rest) ≡ Is f) × (form_letter f ≡ b)
+    → (f : TFormType) × (kind_of (b ∷ rest) ≡ Some f) × (form_letter f ≡ b)
 unfolding plain_test
 plain_of rest b x t h n =
     let ne : eqb x 0 ≡ false = ne_eqb x 0 (omega arith) in
@@ -96,7 +94,7 @@ width_of : (b x : ℕ) → width_test b x ≡ true → letter_width b ≡ x
 unfolding width_test
 width_of b x t = eqb-true (letter_width b) x t
 
-p_of : (e : VariableArrayTy) (rest : List ℕ) → kind_of (80 ∷ letter e ∷ rest) ≡ Is (P e)
+p_of : (e : VariableArrayTy) (rest : List ℕ) → kind_of (80 ∷ letter e ∷ rest) ≡ Some (P e)
 unfolding kind_of element_of element_among first_element
 p_of L rest = refl
 p_of X rest = refl
@@ -110,7 +108,7 @@ p_of D rest = refl
 p_of C rest = refl
 p_of M rest = refl
 
-q_of : (e : VariableArrayTy) (rest : List ℕ) → kind_of (81 ∷ letter e ∷ rest) ≡ Is (Q e)
+q_of : (e : VariableArrayTy) (rest : List ℕ) → kind_of (81 ∷ letter e ∷ rest) ≡ Some (Q e)
 unfolding kind_of element_of element_among first_element
 q_of L rest = refl
 q_of X rest = refl

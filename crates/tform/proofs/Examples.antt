@@ -7,8 +7,8 @@ use lib.ListN.{replicate}
 use Rattle.ascii.specs.Text.{bytes, front, decimal}
 use Rattle.tform.specs.declared.VariableArrayTy.TheVariants.{E}
 use Rattle.tform.specs.declared.TFormType.TheVariants.{P}
+use Rattle.std.specs.Prelude.{Option, Some, None}
 use Rattle.tform.specs.declared.TForm.{TForm}
-use Rattle.tform.specs.declared.TForm.TheVariants.{Valid, Invalid}
 use Rattle.tform.specs.Width.{among, letter_width, field_bytes}
 use Rattle.tform.specs.Form.{repeat_count, element_among, element_of, first_element, kind_of, form_of}
 
@@ -17,9 +17,9 @@ pub data Size : Type 0 where
   takes : ℕ → Size
   bad : Size
 
-abbrev pub size_of : TForm → Size
-size_of (Valid f n) = takes (field_bytes f n)
-size_of Invalid = bad
+abbrev pub size_of : Option TForm → Size
+size_of (Some t) = takes (field_bytes t.form t.count)
+size_of None = bad
 
 -- the nine texts
 unfoldable pub form_texts : List (List ℕ)
@@ -48,6 +48,6 @@ descriptor_forms = refl
 
 -- four spellings of one descriptor
 pub one_descriptor : map form_of (bytes "1PE" ∷ bytes "PE" ∷ bytes "PE(20)" ∷ bytes "00001PE" ∷ [])
-    ≡ replicate 4 (Valid (P E) 1)
+    ≡ replicate 4 (Some (record { form = P E; count = 1 }))
 unfolding bytes front decimal among letter_width repeat_count element_among element_of first_element kind_of form_of
 one_descriptor = refl

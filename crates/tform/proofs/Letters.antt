@@ -1,5 +1,6 @@
 -- What the letters of a form are, one law for each answer.
 -- Assumes nothing.
+use Rattle.std.specs.Prelude.{None}
 use mathlib.Core.Path.{◌≡◌, refl}
 use mathlib.Core.List.{List, [], ◌∷◌}
 use Prim.Native.Nat.{ℕ}
@@ -7,11 +8,9 @@ use native.Mathlib.Omega.{arith}
 use lib.ListN.{length, get_or, drop}
 use borrow.Author.Tests.{ne_eqb}
 use Rattle.tform.specs.declared.TFormType.TheVariants.{Items, P, Q}
-use Rattle.tform.specs.declared.parsing.Kind.TheVariants.{Unknown}
 use Rattle.tform.specs.Form.{element_of, first_element, kind_with, kind_of}
-use Rattle.tform.specs.declared.parsing.Element.TheVariants as El
 
-pub element_none : (s : List ℕ) → length s ≡ 0 → El.Unknown ≡ first_element s
+pub element_none : (s : List ℕ) → length s ≡ 0 → None ≡ first_element s
 unfolding first_element
 element_none [] e = refl
 element_none (b ∷ bs) e = absurd (omega (arith, e))
@@ -21,7 +20,7 @@ unfolding first_element
 element_some [] h = absurd (h refl)
 element_some (b ∷ bs) h = refl
 
-pub kind_none : (s : List ℕ) → length s ≡ 0 → Unknown ≡ kind_of s
+pub kind_none : (s : List ℕ) → length s ≡ 0 → None ≡ kind_of s
 unfolding kind_of
 kind_none [] e = refl
 kind_none (b ∷ bs) e = absurd (omega (arith, e))

@@ -7,8 +7,6 @@ ghost use Rattle.std.specs.Prelude.{◌≡◌};
 ghost use Rattle.tform.specs.Width.{letter, form_letter, letter_width, items, field_items, field_bytes, count_ok};
 ghost use Rattle.tform.specs.Form.{counted, form_of};
 
-use parsing::Kind;
-
 // What one item is, in a column or in an array of the heap.
 #[derive(Clone, Copy)]
 pub enum VariableArrayTy {
@@ -34,11 +32,11 @@ pub enum TFormType {
     Q(VariableArrayTy),
 }
 
-// The value of TFORMn.
+// The value of TFORMn: a form and the count before its letter.
 #[derive(Clone, Copy)]
-pub enum TForm {
-    Valid { form: TFormType, count: u32 },
-    Invalid,
+pub struct TForm {
+    pub form: TFormType,
+    pub count: u32,
 }
 
 // The bytes of one item, or of one descriptor, by the form's letter; 0 for any other byte.
@@ -151,23 +149,23 @@ pub fn count_ok(form: TFormType, count: u32) -> bool
     }
 }
 
-fn counted(kind: Kind, count: u32) -> TForm
-    ensures { result ≡ counted count kind }
+// A form with its count, unless that is too large.
+fn counted(form: TFormType, count: u32) -> Option<TForm>
+    ensures { result ≡ counted count (Some form) }
 {
-    let Kind::Is(form) = kind else {
-        return TForm::Invalid;
-    };
     if count_ok(form, count) {
-        return TForm::Valid { form, count };
+        Some(TForm { form, count })
+    } else {
+        None
     }
-    TForm::Invalid
 }
 
-// The form that a text is: digits, a letter, and a rest that is ignored.
-pub fn parse_tform(text: &[u8]) -> TForm
+// The form that a text is: digits, a letter, and a rest that is ignored. None where it is a bad one.
+pub fn parse_tform(text: &[u8]) -> Option<TForm>
     ensures { result ≡ form_of text.now }
 {
     let digits = ascii::leading_digits(text);
     let count = parsing::repeat_count(text, digits);
-    counted(parsing::kind_of(&text[digits..]), count)
+    let form = parsing::kind_of(&text[digits..])?;
+    counted(form, count)
 }

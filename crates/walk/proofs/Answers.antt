@@ -1,6 +1,7 @@
 -- What each answer of a step says on any layout, data area and cursor: a refusal moves nothing and writes nothing, each step has its own refusals, and
 -- a list lent keeps its length and what lies behind the cells of a row.
 -- Assumes nothing.
+use Rattle.std.specs.Prelude.{Result, Err, Ok, Option, Some, None}
 use Prim.Native.Nat.{ℕ, suc, ◌≤◌}
 use mathlib.Core.Path.{◌≡◌, refl, sym, ap, ap₂, subst, ◌∙◌}
 use mathlib.Core.Bool.{true, false, and-false}
@@ -11,22 +12,18 @@ use lib.ListN.{length, drop, length-append, length-drop}
 use lib.Seq.{drop-append_seam}
 use borrow.Author.Tests.{leb-true}
 use Rattle.ascii.proofs.Cases.{by_test}
+use Rattle.refusal.specs.declared.Refusal.{Refusal}
 use Rattle.refusal.specs.Refusal as H
 use Rattle.tform.specs.Width.{among}
 use Rattle.layout.specs.declared.BinTable.{BinTable}
-use Rattle.refusal.specs.declared.Check.{Check}
-use Rattle.refusal.specs.declared.Check.TheVariants as C
-use Rattle.refusal.proofs.Decided.{check_of, check_back, outcome_decides}
+use Rattle.refusal.proofs.Decided.{check_of, check_back}
 use Rattle.cell.specs.declared.Cell.{Cell}
 use Rattle.walk.specs.declared.TableData.{TableData}
 use Rattle.walk.specs.declared.Entry.{Entry}
 use Rattle.walk.specs.declared.Entry.TheVariants as E
-use Rattle.walk.specs.declared.Answer.{Answer}
-use Rattle.walk.specs.declared.Answer.TheVariants as A
-use Rattle.walk.specs.declared.Opened.{Opened}
 use Rattle.walk.specs.Plain.{row_entries}
 use Rattle.walk.specs.Walk.{Step, read_cell, read_row, seek, lent, Outcome, Reply, got_cell, got_row, sought, at_end, refused, Next, entry_at, no_entry, Gathered, all_cells, outside, next_entry, rest, cell_outcome, row_outcome, walk_step}
-use Rattle.walk.specs.Step.{fits, choice_ok, belongs, with_cursor, state_of, no_cursor, Opening, opening_of, reply_of, Result, cursor_step, run}
+use Rattle.walk.specs.Step.{fits, choice_ok, belongs, with_cursor, state_of, no_cursor, Opening, opening_of, cell_reply, row_reply, seek_reply, StepResult, cursor_step, run}
 
 -- the refusals of a step
 abbrev pub refusals_of : Step → List ℕ
@@ -76,7 +73,7 @@ pub answers : (l : BinTable) (a : List ℕ) (c : TableData) (x : Step)
     → Says x c (cursor_step l a c x).reply (cursor_step l a c x).cursor (cursor_step l a c x).list
 unfolding cursor_step among
 answers l a c x =
-    by_test (λ (o : Result). Says x c o.reply o.cursor o.list) (belongs l a c)
+    by_test (λ (o : StepResult). Says x c o.reply o.cursor o.list) (belongs l a c)
     (λ t. step_says (row_entries l a c.choice c.heap) l.naxis2 c x) (λ t. (ten x, (refl, refl)))
   where
     ten : (x : Step) → among 10 (refusals_of x) ≡ true
@@ -104,31 +101,66 @@ NoList read_cell list = [] ≡ list
 NoList (read_row lent) list = Unit {0}
 NoList (seek r) list = [] ≡ list
 
-abbrev refusal_in : Check → Answer
-refusal_in C.Passed = A.End
-refusal_in (C.Refused r) = A.Refused r
+-- a refusal by its number and place; `x` where there is none
+abbrev refused_or : {A : Type 0} → A → Result Unit Refusal → Result A Refusal
+refused_or x (Ok y) = Ok x
+refused_or x (Err r) = Err r
 
-abbrev pub answer_in : Reply → Answer
-answer_in (got_cell c) = A.Cell c
-answer_in (got_row k) = A.Row k
-answer_in sought = A.Sought
-answer_in at_end = A.End
-answer_in (refused n p) = refusal_in (check_of (H.refused n p))
+-- the answers of a cell read, a row read and a seek that stand for a reply
+abbrev pub cell_answer : Reply → Result (Option Cell) Refusal
+cell_answer (got_cell c) = Ok (Some c)
+cell_answer (got_row k) = Ok None
+cell_answer sought = Ok None
+cell_answer at_end = Ok None
+cell_answer (refused n p) = refused_or None (check_of (H.refused n p))
 
-answer_back : (x : Answer) → answer_in (reply_of x) ≡ x
-answer_back (A.Cell c) = refl
-answer_back (A.Row n) = refl
-answer_back A.Sought = refl
-answer_back A.End = refl
-answer_back (A.Refused r) = ap refusal_in (check_back (C.Refused r))
+abbrev pub row_answer : Reply → Result (Option ℕ) Refusal
+row_answer (got_cell c) = Ok None
+row_answer (got_row k) = Ok (Some k)
+row_answer sought = Ok None
+row_answer at_end = Ok None
+row_answer (refused n p) = refused_or None (check_of (H.refused n p))
 
-pub reply_decides : (x y : Answer) → reply_of x ≡ reply_of y → x ≡ y
-reply_decides x y e = sym (answer_back x) ∙ ap answer_in e ∙ answer_back y
+abbrev pub seek_answer : Reply → Result Unit Refusal
+seek_answer (got_cell c) = Ok tt
+seek_answer (got_row k) = Ok tt
+seek_answer sought = Ok tt
+seek_answer at_end = Ok tt
+seek_answer (refused n p) = refused_or tt (check_of (H.refused n p))
+
+cell_back : (x : Result (Option Cell) Refusal) → cell_answer (cell_reply x) ≡ x
+cell_back (Ok (Some c)) = refl
+cell_back (Ok None) = refl
+cell_back (Err r) = ap (refused_or None) (check_back (Err r))
+
+row_back : (x : Result (Option ℕ) Refusal) → row_answer (row_reply x) ≡ x
+row_back (Ok (Some n)) = refl
+row_back (Ok None) = refl
+row_back (Err r) = ap (refused_or None) (check_back (Err r))
+
+seek_back : (x : Result Unit Refusal) → seek_answer (seek_reply x) ≡ x
+seek_back (Ok tt) = refl
+seek_back (Err r) = ap (refused_or tt) (check_back (Err r))
+
+pub cell_reply_decides : (x y : Result (Option Cell) Refusal) → cell_reply x ≡ cell_reply y → x ≡ y
+cell_reply_decides x y e = sym (cell_back x) ∙ ap cell_answer e ∙ cell_back y
+
+pub row_reply_decides : (x y : Result (Option ℕ) Refusal) → row_reply x ≡ row_reply y → x ≡ y
+row_reply_decides x y e = sym (row_back x) ∙ ap row_answer e ∙ row_back y
+
+pub seek_reply_decides : (x y : Result Unit Refusal) → seek_reply x ≡ seek_reply y → x ≡ y
+seek_reply_decides x y e = sym (seek_back x) ∙ ap seek_answer e ∙ seek_back y
+
+-- the answer of a call stands for the reply of its step
+abbrev pub Answered : Step → Reply → Type 0
+Answered read_cell r = cell_reply (cell_answer r) ≡ r
+Answered (read_row list) r = row_reply (row_answer r) ≡ r
+Answered (seek k) r = seek_reply (seek_answer r) ≡ r
 
 -- and the other way round: an answer of the code's stands for each answer of a step, with nothing where no list is lent
 module _ (rows : ℕ → List Entry) (n : ℕ) (c : TableData) where
   abbrev Stands : Step → Outcome → Type 0
-  Stands x o = let r = with_cursor c.choice c.heap o in (reply_of (answer_in r.reply) ≡ r.reply) × NoList x r.list
+  Stands x o = let r = with_cursor c.choice c.heap o in Answered x r.reply × NoList x r.list
 
   cell_stands : (x : Next) → Stands read_cell (cell_outcome rows n (state_of c) x)
   cell_stands no_entry = (refl, refl)
@@ -147,12 +179,17 @@ module _ (rows : ℕ → List Entry) (n : ℕ) (c : TableData) where
   step_stands (seek r) = by_test (Stands (seek r)) (ltb r n) (λ t. (refl, refl)) (λ t. (refl, refl))
 
 pub answer_stands : (l : BinTable) (a : List ℕ) (c : TableData) (x : Step)
-    → (reply_of (answer_in (cursor_step l a c x).reply) ≡ (cursor_step l a c x).reply) × NoList x (cursor_step l a c x).list
+    → Answered x (cursor_step l a c x).reply × NoList x (cursor_step l a c x).list
 unfolding cursor_step
 answer_stands l a c x =
-    by_test (λ (o : Result). (reply_of (answer_in o.reply) ≡ o.reply) × NoList x o.list) (belongs l a c)
-    (λ t. step_stands (row_entries l a c.choice c.heap) l.naxis2 c x) (λ t. (refl, none x))
+    by_test (λ (o : StepResult). Answered x o.reply × NoList x o.list) (belongs l a c)
+    (λ t. step_stands (row_entries l a c.choice c.heap) l.naxis2 c x) (λ t. (ten x, none x))
   where
+    ten : (x : Step) → Answered x (refused 10 0)
+    ten read_cell = refl
+    ten (read_row list) = refl
+    ten (seek r) = refl
+
     none : (x : Step) → NoList x (lent x)
     none read_cell = refl
     none (read_row list) = tt
@@ -163,8 +200,17 @@ pub no_cursor_lem : (l : BinTable) (a : List ℕ) → belongs l a no_cursor ≡ 
 unfolding belongs choice_ok
 no_cursor_lem l a = and-false (fits l a)
 
-pub opening_decides : (x y : Opened) → opening_of x ≡ opening_of y → x ≡ y
-opening_decides x y e =
-    ap₂ (λ (d : TableData) (k : Check). record { cursor = d; check = k })
-    (ap (λ (o : Opening). o.cursor) e)
-    (outcome_decides x.check y.check (ap (λ (o : Opening). o.outcome) e))
+-- what the code's opening returned, by what it comes to
+abbrev opened_by : Result Unit Refusal → TableData → Result TableData Refusal
+opened_by (Ok x) c = Ok c
+opened_by (Err r) c = Err r
+
+abbrev opening_in : Opening → Result TableData Refusal
+opening_in o = opened_by (check_of o.outcome) o.cursor
+
+opening_back : (x : Result TableData Refusal) → opening_in (opening_of x) ≡ x
+opening_back (Ok c) = refl
+opening_back (Err r) = ap (λ (k : Result Unit Refusal). opened_by k no_cursor) (check_back (Err r))
+
+pub opening_decides : (x y : Result TableData Refusal) → opening_of x ≡ opening_of y → x ≡ y
+opening_decides x y e = sym (opening_back x) ∙ ap opening_in e ∙ opening_back y

@@ -1,5 +1,6 @@
 -- Small tables, read by computation: what the definitions give for them, step by step.
 -- Assumes nothing.
+use Rattle.std.specs.Prelude.{None}
 use Prim.Native.Nat.{ℕ}
 use mathlib.Core.Path.{◌≡◌, refl}
 use mathlib.Core.Bool.{Bool, true, false}
@@ -11,7 +12,6 @@ use Rattle.tform.specs.declared.VariableArrayTy.TheVariants as T
 use Rattle.tform.specs.declared.TFormType.{TFormType}
 use Rattle.tform.specs.declared.TFormType.TheVariants as F
 use Rattle.tform.specs.Width.{among, letter_width}
-use Rattle.layout.specs.declared.Name.TheVariants.{Missing}
 use Rattle.layout.specs.declared.Column.{Column}
 use Rattle.layout.specs.declared.BinTable.{BinTable}
 use Rattle.layout.specs.Layout.{no_column, columns_ok, layout_ok}
@@ -22,15 +22,15 @@ use Rattle.cell.specs.Item.{word, logical, item}
 use Rattle.cell.specs.Field.{array, field32, field64, field}
 use Rattle.walk.specs.Plain.{field_of, cell_of, cells, entries_of, chosen, column_entries, columns_entries, row_entries}
 use Rattle.walk.specs.Walk.{Step, read_cell, read_row, seek, Reply, got_cell, got_row, sought, at_end, refused, start, gather, next, place_ok, walk_step}
-use Rattle.walk.specs.Step.{Selection, all_columns, listed, fits, choice_ok, belongs, cursor_at, choice_from, choice_of, opened, not_opened, open_with, Result, cursor_step, run}
+use Rattle.walk.specs.Step.{Selection, all_columns, listed, fits, choice_ok, belongs, cursor_at, choice_from, choice_of, opened, not_opened, open_with, StepResult, cursor_step, run}
 
 abbrev column : TFormType → ℕ → ℕ → Column
-column f n at = record { form = f; count = n; start = at; name = Missing }
+column f n at = record { form = f; count = n; start = at; name = None }
 
 -- the answers of some steps from an opened cursor
 pub answers : BinTable → List ℕ → Selection → Bool → List Step → List Reply
 unfolding run cursor_step belongs fits layout_ok columns_ok choice_ok choice_from place_ok walk_step next gather row_entries columns_entries column_entries entries_of cells chosen field_of field field32 field64 array item logical word letter_width among bytes
-answers l a sel heap xs = map (λ (o : Result). o.reply) (run l a (cursor_at (choice_of l sel) heap start) xs)
+answers l a sel heap xs = map (λ (o : StepResult). o.reply) (run l a (cursor_at (choice_of l sel) heap start) xs)
 
 -- ---- `1I`, `1J`, two rows
 

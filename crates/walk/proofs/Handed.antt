@@ -18,7 +18,7 @@ use Rattle.walk.specs.declared.Entry.{Entry}
 use Rattle.walk.specs.declared.Entry.TheVariants as E
 use Rattle.walk.specs.Plain.{column_of, field_of, cell_of, cells, entries_of, chosen, column_entries, columns_entries, row_entries}
 use Rattle.walk.specs.Walk.{Step, read_cell, read_row, seek, State, Outcome, Reply, got_cell, got_row, sought, at_end, refused, Next, entry_at, no_entry, Gathered, all_cells, outside, before, gather, next, next_entry, rest, cell_outcome, row_outcome, walk_step}
-use Rattle.walk.specs.Step.{belongs, state_of, Result, cursor_step}
+use Rattle.walk.specs.Step.{belongs, state_of, StepResult, cursor_step}
 
 module _ (P : Cell → Type 0) where
   abbrev OfEntry : Entry → Type 0
@@ -133,5 +133,5 @@ module _ (P : Cell → Type 0) where
       → OfReply (cursor_step l a c x).list (cursor_step l a c x).reply
   unfolding cursor_step
   step_all l a c x all =
-      by_test (λ (o : Result). OfReply o.list o.reply) (belongs l a c)
+      by_test (λ (o : StepResult). OfReply o.list o.reply) (belongs l a c)
       (λ t. walk_all (row_entries l a c.choice c.heap) l.naxis2 all (state_of c) x) (λ t. tt)

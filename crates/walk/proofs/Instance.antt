@@ -1,6 +1,7 @@
 -- Two data areas that agree and are not the same: they differ in their lengths, in a column that is not chosen, in the gap before the heap, in
 -- heap bytes that no descriptor names, and where an array that is not sound would lie. One header is accepted with both, so `isolation` applies to them.
 -- Assumes nothing.
+use Rattle.std.specs.Prelude.{None}
 use Prim.Native.Nat.{ℕ, zero, suc, ◌+◌, ◌*◌, ◌<◌}
 use mathlib.Core.Path.{◌≡◌, refl, sym, subst}
 use mathlib.Core.Bool.{Bool, true, ◌&&◌, false≢true}
@@ -24,7 +25,6 @@ use Rattle.tform.specs.declared.TFormType.{TFormType}
 use Rattle.tform.specs.declared.TFormType.TheVariants as F
 use Rattle.tform.specs.Width.{among, letter_width}
 use Rattle.tform.specs.Form.{repeat_count, element_among, element_of, first_element, kind_of, form_of}
-use Rattle.layout.specs.declared.Name.TheVariants.{Missing}
 use Rattle.layout.specs.declared.Column.{Column}
 use Rattle.layout.specs.declared.BinTable.{BinTable}
 use Rattle.layout.specs.Layout.{no_column, column_bytes, row_bytes, columns_ok, layout_ok}
@@ -36,13 +36,13 @@ use Rattle.cell.specs.Item.{word, item}
 use Rattle.cell.specs.Field.{array, field32, field}
 use Rattle.walk.specs.Plain.{column_of, field_at, field_of, cell_of, cells, entries_of, chosen, column_entries, columns_entries, row_entries}
 use Rattle.walk.specs.Walk.{Step, read_cell, read_row, seek, Reply, got_cell, sought, refused, start, gather, next, place_ok, walk_step}
-use Rattle.walk.specs.Step.{fits, choice_ok, belongs, cursor_at, listed, choice_from, choice_of, open_with, Result, cursor_step, run}
+use Rattle.walk.specs.Step.{fits, choice_ok, belongs, cursor_at, listed, choice_from, choice_of, open_with, StepResult, cursor_step, run}
 use Rattle.walk.specs.Agree.{Same, SameItems, Agree, SameSteps}
 use Rattle.walk.proofs.Isolation.{isolation}
 use Rattle.walk.proofs.Together.{padded}
 
 abbrev column : TFormType → ℕ → Column
-column f at = record { form = f; count = 1; start = at; name = Missing }
+column f at = record { form = f; count = 1; start = at; name = None }
 
 -- two rows of a descriptor `1PB` and an `1I`, four bytes before the heap, and six in it
 abbrev pub table : BinTable
@@ -144,7 +144,7 @@ cell_at i b = cell_of 0 0 i (UnsignedByte b)
 
 pub replies : List ℕ → List Reply
 unfolding run cursor_step belongs fits layout_ok columns_ok choice_ok place_ok walk_step next gather row_entries columns_entries column_entries entries_of cells chosen field_of field field32 array item word letter_width among bytes
-replies a = map (λ (o : Result). o.reply) (run table a (cursor_at 1 true start) steps)
+replies a = map (λ (o : StepResult). o.reply) (run table a (cursor_at 1 true start) steps)
 
 pub both_reply : (replies area_a ≡ got_cell (cell_at 0 80) ∷ got_cell (cell_at 1 90) ∷ refused 13 0 ∷ refused 13 0 ∷ sought ∷ got_cell (cell_at 0 80) ∷ [])
     × (replies area_a ≡ replies area_b)

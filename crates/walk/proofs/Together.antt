@@ -1,6 +1,7 @@
 -- The request's example, whole, and the nine forms beside it, as one list and one theorem: what each form takes by the definition that
 -- the contracts cite, and the four cells from the bytes of the header and of the data area, by the entry, the opening and the steps.
 -- Assumes nothing.
+use Rattle.std.specs.Prelude.{Some}
 use Prim.Native.Nat.{ℕ, ◌-◌, ◌*◌}
 use Prim.Native.String.{String}
 use mathlib.Core.Path.{◌≡◌, refl, ap}
@@ -20,7 +21,6 @@ use Rattle.tform.specs.declared.TFormType.TheVariants as F
 use Rattle.tform.specs.Width.{among, letter_width}
 use Rattle.tform.specs.Form.{repeat_count, element_among, element_of, first_element, kind_of, form_of}
 use Rattle.tform.proofs.Examples.{Size, takes, bad, size_of}
-use Rattle.layout.specs.declared.Name.TheVariants.{Stretch}
 use Rattle.layout.specs.declared.BinTable.{BinTable}
 use Rattle.layout.specs.Layout.{no_column, row_bytes, columns_ok, layout_ok}
 use Rattle.bintable.specs.Checks.{first_refusal}
@@ -32,7 +32,7 @@ use Rattle.cell.specs.Field.{field}
 use Rattle.walk.specs.declared.TableData.{TableData}
 use Rattle.walk.specs.Plain.{field_of, cell_of, cells, entries_of, chosen, column_entries, columns_entries, row_entries}
 use Rattle.walk.specs.Walk.{read_cell, Reply, got_cell, at_end, refused, start, next, place_ok, walk_step}
-use Rattle.walk.specs.Step.{all_columns, fits, choice_ok, belongs, cursor_at, choice_from, opened, open_with, Result, cursor_step, run}
+use Rattle.walk.specs.Step.{all_columns, fits, choice_ok, belongs, cursor_at, choice_from, opened, open_with, StepResult, cursor_step, run}
 use Rattle.walk.proofs.Examples.{area}
 
 -- ---- the header of the request's example; its data area is that of Examples
@@ -73,8 +73,8 @@ table =
       theap = 12;
       tfields = 2;
       columns =
-          record { form = F.Items T.I; count = 1; start = 0; name = Stretch 731 3 }
-          ∷ record { form = F.Items T.J; count = 1; start = 2; name = Stretch 891 2 }
+          record { form = F.Items T.I; count = 1; start = 0; name = Some (record { start = 731; len = 3 }) }
+          ∷ record { form = F.Items T.J; count = 1; start = 2; name = Some (record { start = 891; len = 2 }) }
           ∷ replicate 62 no_column;
     }
 
@@ -116,7 +116,7 @@ examples =
 
 -- the replies of five cell reads from a cursor
 abbrev pub replies : BinTable → TableData → List Reply
-replies l c = map (λ (o : Result). o.reply) (run l area c (replicate 5 read_cell))
+replies l c = map (λ (o : StepResult). o.reply) (run l area c (replicate 5 read_cell))
 
 -- the entry accepts the header and the area with some layout, opening on it gives some cursor, and reply k from there on is r
 pub record ReadsAs (k : ℕ) (r : Reply) : Type 0 where

@@ -9,7 +9,7 @@ use Rattle.cell.specs.Item.{width}
 use Rattle.walk.specs.declared.TableData.{TableData}
 use Rattle.walk.specs.Plain.{column_of, field_at, field_of, chosen}
 use Rattle.walk.specs.Walk.{Step, stop, handed}
-use Rattle.walk.specs.Step.{Selection, choice_of, Result, with_cursor, run, plain_walk}
+use Rattle.walk.specs.Step.{Selection, choice_of, StepResult, with_cursor, run, plain_walk}
 
 -- the n bytes from place p on are the same in a and b
 abbrev pub Same : List ℕ → List ℕ → ℕ → ℕ → Type 0
@@ -28,7 +28,7 @@ pub record Agree (l : BinTable) (a b : List ℕ) (choice : ℕ) (heap : Bool) : 
   pub arrays : (r c : ℕ) → r < l.naxis2 → c < l.tfields → chosen choice c ≡ true → SameItems a b (field_of l a heap r c)
 
 -- after each step the cursor's count is the number of cells that the steps so far handed out, up to the stop; k were handed out before
-abbrev pub Counted : ℕ → List Step → List Result → Type 0
+abbrev pub Counted : ℕ → List Step → List StepResult → Type 0
 Counted k [] [] = Unit {0}
 Counted k [] (o ∷ os) = ⊥
 Counted k (x ∷ xs) [] = ⊥

@@ -1,19 +1,16 @@
 -- The cursor's calls, as their contracts state them, for any layout, data area and cursor (FORMAT.md, section 14). What does not belong
 -- together gets a 10. Any other cursor does what the plain walk does from the choice, heap setting, place and count that it holds.
 -- Assumes nothing.
-use Rattle.std.specs.Prelude.{ℕ, zero, suc, ◌+◌, ◌-◌, ◌*◌, ◌^◌, Bool, true, false, cond, ◌&&◌, ◌||◌, List, [], ◌∷◌, length, eqb, leb, ltb}
+use Rattle.std.specs.Prelude.{ℕ, zero, suc, ◌+◌, ◌-◌, ◌*◌, ◌^◌, Bool, true, false, cond, ◌&&◌, ◌||◌, List, [], ◌∷◌, length, eqb, leb, ltb, Option, Some, None, Result, Ok, Err}
 use Rattle.refusal.specs.Refusal as H
 use Rattle.tform.specs.Width.{among}
 use Rattle.layout.specs.declared.BinTable.{BinTable}
 use Rattle.layout.specs.Layout.{data_size, layout_ok}
-use Rattle.refusal.specs.Refusal.{number_of, place_of, outcome_of}
+use Rattle.refusal.specs.declared.Refusal.{Refusal}
+use Rattle.refusal.specs.Refusal.{number_of, place_of}
 use Rattle.cell.specs.declared.Cell.{Cell}
 use Rattle.walk.specs.declared.TableData.{TableData}
 use Rattle.walk.specs.declared.Entry.{Entry}
-use Rattle.walk.specs.declared.Answer.{Answer}
-use Rattle.walk.specs.declared.Answer.TheVariants as A
-use Rattle.walk.specs.declared.Opened.{Opened}
-use Rattle.walk.specs.declared.Stepped.{Stepped}
 use Rattle.walk.specs.Plain.{row_entries}
 use Rattle.walk.specs.Walk.{Step, lent, State, start, Outcome, Reply, got_cell, got_row, sought, at_end, refused, place_ok, entries_left, walk_step, walk}
 
@@ -82,30 +79,31 @@ unfoldable pub open_with : BinTable → List ℕ → Selection → Bool → Open
 open_with l a sel heap =
     cond (fits l a) (cond (choice_ok l (choice_of l sel)) (opened (cursor_at (choice_of l sel) heap start)) (not_opened 11)) (not_opened 10)
 
--- what the code's opening returned
-abbrev pub opening_of : Opened → Opening
-opening_of o = record { outcome = outcome_of o.check; cursor = o.cursor }
+-- what the code's opening returned: beside a refusal stands the empty cursor
+abbrev pub opening_of : Result TableData Refusal → Opening
+opening_of (Ok c) = opened c
+opening_of (Err r) = record { outcome = H.refused (number_of r) (place_of r); cursor = no_cursor }
 
 -- ---- a step
 
 -- the result of a cursor's step: its answer, the cursor after it, and what the list lent holds afterwards
-pub record Result : Type 0 where
+pub record StepResult : Type 0 where
   pub reply : Reply
   pub cursor : TableData
   pub list : List Cell
 
 -- an outcome of the walk as the result of a cursor with this choice and heap setting
-abbrev pub with_cursor : ℕ → Bool → Outcome → Result
+abbrev pub with_cursor : ℕ → Bool → Outcome → StepResult
 with_cursor choice heap o = record { reply = o.reply; cursor = cursor_at choice heap o.state; list = o.list }
 
-unfoldable pub cursor_step : BinTable → List ℕ → TableData → Step → Result
+unfoldable pub cursor_step : BinTable → List ℕ → TableData → Step → StepResult
 cursor_step l a c x =
     cond (belongs l a c)
     (with_cursor c.choice c.heap (walk_step (row_entries l a c.choice c.heap) l.naxis2 (state_of c) x))
     (record { reply = refused 10 0; cursor = c; list = lent x })
 
 -- a list of steps: each gets the cursor that the last one returned or left
-unfoldable pub run : BinTable → List ℕ → TableData → List Step → List Result
+unfoldable pub run : BinTable → List ℕ → TableData → List Step → List StepResult
 run l a c [] = []
 run l a c (x ∷ xs) = let o = cursor_step l a c x in o ∷ run l a o.cursor xs
 
@@ -116,17 +114,29 @@ plain_walk l a choice heap xs = walk (row_entries l a choice heap) l.naxis2 star
 
 -- ---- what the code's step returned
 
-abbrev pub reply_of : Answer → Reply
-reply_of (A.Cell c) = got_cell c
-reply_of (A.Row n) = got_row n
-reply_of A.Sought = sought
-reply_of A.End = at_end
-reply_of (A.Refused r) = refused (number_of r) (place_of r)
+-- a cell read: a cell, none at the end, or a refusal
+abbrev pub cell_reply : Result (Option Cell) Refusal → Reply
+cell_reply (Ok (Some c)) = got_cell c
+cell_reply (Ok None) = at_end
+cell_reply (Err r) = refused (number_of r) (place_of r)
 
--- with what the list lent holds afterwards, nothing where none is lent
-abbrev pub result_of : Stepped → List Cell → Result
-result_of s list = record { reply = reply_of s.answer; cursor = s.cursor; list = list }
+-- a row read: how many cells it stored, none at the end, or a refusal
+abbrev pub row_reply : Result (Option ℕ) Refusal → Reply
+row_reply (Ok (Some n)) = got_row n
+row_reply (Ok None) = at_end
+row_reply (Err r) = refused (number_of r) (place_of r)
 
--- what a call over a lent cursor left and returned
-abbrev pub stepped : TableData → Answer → Stepped
-stepped c r = record { cursor = c; answer = r }
+-- a seek: it was sought, or a refusal
+abbrev pub seek_reply : Result Unit Refusal → Reply
+seek_reply (Ok x) = sought
+seek_reply (Err r) = refused (number_of r) (place_of r)
+
+-- with the cursor after it, and what the list lent holds afterwards, nothing where none is lent
+abbrev pub cell_result : TableData → Result (Option Cell) Refusal → StepResult
+cell_result c r = record { reply = cell_reply r; cursor = c; list = [] }
+
+abbrev pub row_result : TableData → Result (Option ℕ) Refusal → List Cell → StepResult
+row_result c r list = record { reply = row_reply r; cursor = c; list = list }
+
+abbrev pub seek_result : TableData → Result Unit Refusal → StepResult
+seek_result c r = record { reply = seek_reply r; cursor = c; list = [] }

@@ -7,7 +7,7 @@ ghost use Rattle.std.specs.Prelude.{◌≡◌, ◌+◌, min};
 ghost use Rattle.walk.specs.Walk.{stop};
 
 use cell::Cell;
-use refusal::{Check, Refusal};
+use refusal::Refusal;
 
 // Where a cursor's count stops.
 pub const COUNT_STOP: u32 = 4294967295;
@@ -30,28 +30,12 @@ pub enum Entry {
     OutsideHeap { column: usize },
 }
 
-// What a step answers: a cell, the count of a row read, that the row was sought, the end, or a refusal.
+// What a step of a cursor by value returns: the cursor after it and its answer. A cell read answers a cell, a row read
+// how many cells it stored, both none at the end; a seek answers nothing.
 #[derive(Clone, Copy)]
-pub enum Answer {
-    Cell(Cell),
-    Row(u64),
-    Sought,
-    End,
-    Refused(Refusal),
-}
-
-// What opening returns. Beside a refusal stands the empty cursor.
-#[derive(Clone, Copy)]
-pub struct Opened {
+pub struct Stepped<T> {
     pub cursor: TableData,
-    pub check: Check,
-}
-
-// What a step returns: the cursor after it and its answer.
-#[derive(Clone, Copy)]
-pub struct Stepped {
-    pub cursor: TableData,
-    pub answer: Answer,
+    pub answer: Result<T, Refusal>,
 }
 
 // A count with n more cells; it stays at its stop.

@@ -3,4 +3,4 @@ use Rattle.exports.proofs.Opened.{few_columns}
 use Rattle.exports.proofs.coentrift_layout.Goals as goal
 
 pub sum_layout-requires : goal.sum_layout-requires
-sum_layout-requires c = rw c.parse-parsed.ensures.layout (few_columns c.args.header.now c.args.area.now)
+sum_layout-requires c = few_columns c.args.header.now c.args.area.now c.in-Ok.layout c.in-Ok.ensures

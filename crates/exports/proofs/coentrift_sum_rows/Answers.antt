@@ -6,18 +6,13 @@ use Rattle.exports.specs.Loops.{rows_from}
 use Rattle.exports.proofs.Opened.{row_reads_lem, sum_refused, sum_passed}
 use Rattle.exports.proofs.coentrift_sum_rows.Goals as goal
 
-pub returns-in-Refused : goal.returns-in-Refused
-returns-in-Refused c =
-    c.refused.ensures
-    ∙ sum_refused (by_rows list_length) (rows_from list_length) (row_reads_lem list_length) c.args.area.now
-    c.args.cols.now c.args.heap c.args.header.now c.open_table-start.result
-    c.open_table-start.ensures.check c.open_table-start.ensures.layout
-    c.open_table-start.ensures.cursor c.in-Refused.refusal c.in-Refused.is
+pub returns-in-Err : goal.returns-in-Err
+returns-in-Err c =
+    let a = c.args in
+    c.refused.ensures ∙ sum_refused (by_rows list_length) (rows_from list_length) (row_reads_lem list_length) a.area.now a.cols.now a.heap a.header.now c.in-Err.refusal c.in-Err.ensures.check
 
-pub returns-in-Passed : goal.returns-in-Passed
-returns-in-Passed c =
+pub returns-in-Ok : goal.returns-in-Ok
+returns-in-Ok c =
+    let a = c.args in
     c.sum_rows.ensures
-    ∙ sum_passed (by_rows list_length) (rows_from list_length) (row_reads_lem list_length) c.args.area.now
-    c.args.cols.now c.args.heap c.args.header.now c.open_table-start.result
-    c.open_table-start.ensures.check c.open_table-start.ensures.layout
-    c.open_table-start.ensures.cursor c.in-Passed.is
+    ∙ sum_passed (by_rows list_length) (rows_from list_length) (row_reads_lem list_length) a.area.now a.cols.now a.heap a.header.now _ c.in-Ok.ensures.check c.in-Ok.ensures.start

@@ -1,9 +1,8 @@
 -- `parse` meets its contract: the three tests of the length, then the pass over the records.
-use Rattle.std.proofs.Common.{◌≡◌, true, List, ℕ, length, replicate, ◌∙◌, ap}
+use Rattle.std.proofs.Common.{◌≡◌, true, List, ℕ, length, replicate, ◌∙◌, ap, Err}
 use Rattle.keyword.specs.Names.{slot_names}
 use Rattle.header.specs.declared.Header.{Header}
 use Rattle.refusal.specs.declared.Refusal.TheVariants.{BadLength}
-use Rattle.refusal.specs.declared.Check.TheVariants.{Refused}
 use Rattle.refusal.specs.Refusal.{outcome_of}
 use Rattle.header.specs.Checks.{bad_length, checked, record_of, second_of, index_by}
 use Rattle.header.proofs.Indexed.{empty_first, empty_second}
@@ -12,7 +11,7 @@ use Rattle.header.proofs.parse.Goals as goal
 
 -- a bad length is refused beside the empty index
 module _ (h : List ℕ) (r : Header)
-    (e : (r.check ≡ Refused BadLength) × ((r.first ≡ replicate (length slot_names) 0) × (r.second ≡ replicate (length slot_names) 0)))
+    (e : (r.check ≡ Err BadLength) × ((r.first ≡ replicate (length slot_names) 0) × (r.second ≡ replicate (length slot_names) 0)))
     (b : bad_length h ≡ true) where
   refuse_check : outcome_of r.check ≡ checked h
   refuse_check = ap outcome_of e.0 ∙ bad_check h b

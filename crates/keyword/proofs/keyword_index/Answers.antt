@@ -1,7 +1,6 @@
 -- `keyword_index` meets its contract: the bytes are a numeral exactly when no test fails, and the sum is what it says.
-use Rattle.std.proofs.Common.{◌≡◌, ℕ, ◌-◌, ◌<◌, ◌≤◌, List, length, get_or, drop, sym, ap, ◌∙◌, add-one, below_more, arith}
+use Rattle.std.proofs.Common.{◌≡◌, ℕ, ◌-◌, ◌<◌, ◌≤◌, List, length, get_or, drop, sym, ap, ◌∙◌, add-one, below_more, arith, Some}
 use native.Mathlib.Nat.{pow-suc}
-use Rattle.ascii.specs.declared.Found.TheVariants.{At}
 use Rattle.ascii.specs.Text.{decimal}
 use Rattle.keyword.proofs.Numerals.{Digit, Numeral, numeral_says, index_of, index_none, value_next, value_ends}
 use Rattle.keyword.proofs.keyword_index.Goals as goal
@@ -54,4 +53,4 @@ returns c =
     let s = c.args.s.now in
     let e = whole s c.loop-i.i c.loop-i.sum c.if-n-gt-INDEX_DIGITS.false c.loop-i-test.false c.loop-i.invariant.2 in
     let n = is_numeral s c.loop-i.i c.loop-i.sum c.if-n-gt-INDEX_DIGITS.false c.loop-i-test.false c.loop-i.invariant.2 c.if-n-eq0.false c.if-s-eq48.false c.loop-i.invariant.3 in
-    ap (λ (v : ℕ). At (v - 1)) e ∙ sym (index_of s n)
+    ap (λ (v : ℕ). Some (v - 1)) e ∙ sym (index_of s n)

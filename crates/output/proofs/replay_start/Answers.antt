@@ -13,10 +13,9 @@ slice_bounds-first_step-count c = rw c.header_len-len.ensures (header_inside c.a
 pub slice_bounds-first_step-start : goal.slice_bounds-first_step-start
 slice_bounds-first_step-start c = rw c.header_len-len.ensures (header_inside c.args.file.now)
 
-pub returns-clause-lines : goal.returns-clause-lines
-returns-clause-lines c =
+pub returns-in-Ok-clause-lines : goal.returns-in-Ok-clause-lines
+returns-in-Ok-clause-lines c =
     let f = c.args.file.now in
     let parts = part_from f (header_len f) in
     (rw (c.header_len-len.ensures, parts, c.first_bytes.ensures) at (c.first_step-state.ensures (header_of f)))
-    ∙ replay_passed f (take file_limit c.args.steps.now) c.parse_file-parsed.result.layout
-    (rw c.in_default.is at c.parse_file-parsed.ensures.check) c.parse_file-parsed.ensures.layout
+    ∙ replay_passed f (take file_limit c.args.steps.now) c.in-Ok.layout c.in-Ok.ensures

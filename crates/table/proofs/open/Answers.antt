@@ -15,6 +15,4 @@ returns-then-fits c =
     (sym (open_fit c.args.layout c.args.area.now all_columns c.args.heap (sym c.fits.ensures ∙ c.if-fits.true)))
 
 pub returns : goal.returns
-returns c =
-    rw (c.refused.ensures.check, c.refused.ensures.cursor)
-    (sym (open_unfit c.args.layout c.args.area.now all_columns c.args.heap (sym c.fits.ensures ∙ c.if-fits.false)))
+returns c = sym (open_unfit c.args.layout c.args.area.now all_columns c.args.heap (sym c.fits.ensures ∙ c.if-fits.false))

@@ -16,6 +16,5 @@ returns-then-fits c =
 
 pub returns : goal.returns
 returns c =
-    rw (c.refused.ensures.check, c.refused.ensures.cursor)
-    (sym
-    (open_unfit c.args.layout c.args.area.now (listed c.args.cols.now) c.args.heap (sym c.fits.ensures ∙ c.if-fits.false)))
+    sym
+    (open_unfit c.args.layout c.args.area.now (listed c.args.cols.now) c.args.heap (sym c.fits.ensures ∙ c.if-fits.false))

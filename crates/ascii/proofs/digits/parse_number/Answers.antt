@@ -10,13 +10,13 @@ pub loop-i-preserved : goal.loop-i-preserved
 loop-i-preserved c =
     let l = c.loop-i in (
       omega arith,
-      sym (from_next l.n c.args.text.now l.i _ c.loop-i-test.true (sym c.in-At.ensures)) ∙ l.invariant.1,
+      sym (from_next l.n c.args.text.now l.i _ c.loop-i-test.true (sym c.in-Some.ensures)) ∙ l.invariant.1,
     )
 
-pub returns-in-Nothing : goal.returns-in-Nothing
-returns-in-Nothing c =
+pub returns-in-None : goal.returns-in-None
+returns-in-None c =
     let l = c.loop-i in
-    sym (from_stop l.n c.args.text.now l.i c.loop-i-test.true (sym c.in-Nothing.ensures))
+    sym (from_stop l.n c.args.text.now l.i c.loop-i-test.true (sym c.in-None.ensures))
     ∙ l.invariant.1
     ∙ number_is c.args.text.now c.if-text-eq0.false
 

@@ -1,41 +1,35 @@
 -- `parse_table` meets its contract: the size of the data fits, and the data area is checked last.
-use Rattle.std.proofs.Common.{arith}
+use Rattle.std.proofs.Common.{rules, sym, ap, ◌∙◌, cond, leb, length, arith}
+use Rattle.layout.specs.declared.BinTable.{BinTable}
+use Rattle.layout.specs.Layout.{data_size}
+use Rattle.refusal.specs.Refusal.{accepted, refused}
 use Rattle.bintable.specs.Entry.{check10}
-use Rattle.bintable.proofs.Entered.{layout_size, entry_parts}
+use Rattle.bintable.proofs.Entered.{layout_size, columns_refused, by_area}
 use Rattle.bintable.proofs.columns.parse_table.Goals as goal
 
-pub overflow_mul-size : goal.overflow_mul-size
-overflow_mul-size c = rw c.read_layout-read.ensures.layout (omega (arith, (layout_size c.args.header.now c.requires.1.1).0))
+pub overflow_mul-layout : goal.overflow_mul-layout
+overflow_mul-layout c = rw c.in_ok-layout.ensures.layout (omega (arith, (layout_size c.args.header.now c.requires.1.1).0))
 
-pub overflow_add-size : goal.overflow_add-size
-overflow_add-size c = rw c.read_layout-read.ensures.layout (omega (arith, layout_size c.args.header.now c.requires.1.1))
+pub overflow_add-layout : goal.overflow_add-layout
+overflow_add-layout c = rw c.in_ok-layout.ensures.layout (omega (arith, layout_size c.args.header.now c.requires.1.1))
 
-pub returns-clause-check : goal.returns-clause-check
+pub returns-in_err-layout : goal.returns-in_err-layout
+returns-in_err-layout c =
+    let e = columns_refused c.args.header.now c.args.area.now c.requires.1.0 c.requires.1.1 _ _ c.in_err-layout.ensures.check in
+    search (rules, e)
+
+pub returns-in_err-check10 : goal.returns-in_err-check10
 unfolding check10
-returns-clause-check c =
+returns-in_err-check10 c =
     let h = c.args.header.now in let a = c.args.area.now in
-    rw (
-      c.answered.ensures.check,
-      c.before-check.ensures,
-      c.check10-long.ensures,
-      c.read_layout-read.ensures.check,
-      c.read_layout-read.ensures.layout,
-      entry_parts h a,
-      c.requires.1.0,
-      c.requires.1.1,
-    )
+    let size = ap (λ (l : BinTable). cond (leb (data_size l) (length a)) accepted (refused 10 0)) c.in_ok-layout.ensures.layout in
+    let e = by_area h a c.requires.1.0 c.requires.1.1 _ c.in_ok-layout.ensures.check (c.in_err-check10.ensures ∙ size) in
+    search (rules, e)
 
-pub returns-clause-layout : goal.returns-clause-layout
+pub returns : goal.returns
 unfolding check10
-returns-clause-layout c =
+returns c =
     let h = c.args.header.now in let a = c.args.area.now in
-    rw (
-      c.answered.ensures.layout,
-      c.before-check.ensures,
-      c.check10-long.ensures,
-      c.read_layout-read.ensures.check,
-      c.read_layout-read.ensures.layout,
-      entry_parts h a,
-      c.requires.1.0,
-      c.requires.1.1,
-    )
+    let size = ap (λ (l : BinTable). cond (leb (data_size l) (length a)) accepted (refused 10 0)) c.in_ok-layout.ensures.layout in
+    let e = by_area h a c.requires.1.0 c.requires.1.1 _ c.in_ok-layout.ensures.check (c.in_ok-check10.ensures ∙ size) in
+    rw c.in_ok-layout.ensures.layout e

@@ -1,6 +1,6 @@
 -- `read_columns`: the check, the array and the bytes are those of the columns so far.
 use Rattle.std.proofs.Common.{◌≡◌, ◌-◌, ◌≤◌}
-use Rattle.refusal.specs.Refusal.{outcome_of}
+use Rattle.refusal.specs.Refusal.{accepted}
 use Rattle.layout.specs.Layout.{row_bytes}
 use Rattle.bintable.specs.Entry.{column_checks}
 use Rattle.bintable.proofs.Filled.{columns_to, filled}
@@ -8,8 +8,8 @@ use Rattle.bintable.proofs.columns.read_columns.Given as goal
 
 abbrev pub invariant-loop-i : goal.invariant-loop-i
 invariant-loop-i l =
-    (l.i ≤ l.tfields) × (outcome_of l.check ≡ column_checks l.header l.i)
-    × (l.columns ≡ filled l.header l.i) × (l.start ≡ row_bytes (columns_to l.header l.i))
+    (l.i ≤ l.tfields) × (column_checks l.header l.i ≡ accepted)
+    × (l.columns ≡ filled l.header l.i) × (l.bytes ≡ row_bytes (columns_to l.header l.i))
 
 abbrev pub decreases-loop-i : goal.decreases-loop-i
 decreases-loop-i l = l.tfields - l.i

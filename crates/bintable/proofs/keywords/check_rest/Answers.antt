@@ -14,34 +14,10 @@ overflow_mul-naxis1 c =
     let b : c.size_of-naxis2.result ≡ size_for h "NAXIS2" = cc (at_naxis2 h c.args.first.now c.requires.0) in
     rw (a, b) (omega (arith, main_limit h c.requires.1))
 
-pub check_theap-theap-requires : goal.check_theap-theap-requires
-check_theap-theap-requires c =
+pub check_theap-requires : goal.check_theap-requires
+check_theap-requires c =
     let h = c.args.header.now in
     let a : c.size_of-naxis1.result ≡ size_for h "NAXIS1" = cc (at_naxis1 h c.args.first.now c.requires.0) in
     let b : c.size_of-naxis2.result ≡ size_for h "NAXIS2" = cc (at_naxis2 h c.args.first.now c.requires.0) in
     let p : c.size_of-pcount.result ≡ size_for h "PCOUNT" = cc (at_pcount h c.args.first.now c.requires.0) in
     rw (a, b, p) (omega (arith, main_limit h c.requires.1, size_limits h c.requires.1))
-
-pub returns : goal.returns
-unfolding nine
-returns c =
-    let h = c.args.header.now in
-    let a : c.size_of-naxis1.result ≡ size_for h "NAXIS1" = cc (at_naxis1 h c.args.first.now c.requires.0) in
-    let b : c.size_of-naxis2.result ≡ size_for h "NAXIS2" = cc (at_naxis2 h c.args.first.now c.requires.0) in
-    let p : c.size_of-pcount.result ≡ size_for h "PCOUNT" = cc (at_pcount h c.args.first.now c.requires.0) in
-    rw (
-      c.before-3.ensures,
-      c.before-2.ensures,
-      c.check_theap-theap.ensures,
-      c.record_of-6.ensures,
-      c.check_tfields-tfields.ensures,
-      c.record_of-5.ensures,
-      c.check_fixed-gcount.ensures,
-      c.record_of-4.ensures,
-      a,
-      b,
-      p,
-      at_gcount h c.args.first.now c.requires.0,
-      at_tfields h c.args.first.now c.requires.0,
-      at_theap h c.args.first.now c.requires.0,
-    ) (first_three _ _ _)

@@ -1,5 +1,5 @@
 -- `string_value` meets its contract, by the cases of `string_value`.
-use Rattle.std.proofs.Common.{◌≡◌, ℕ, ◌+◌, ◌-◌, Bool, List, length, take, drop, sym, ◌∙◌, ap, arith}
+use Rattle.std.proofs.Common.{◌≡◌, ℕ, ◌+◌, ◌-◌, Bool, List, length, take, drop, sym, ◌∙◌, ap, arith, Some}
 use Rattle.ascii.specs.Text.{trim}
 use Rattle.ascii.proofs.Parts.{part_from, part_to}
 use Rattle.card.specs.declared.Value.TheVariants.{String}
@@ -35,5 +35,5 @@ pub returns : goal.returns
 returns c =
     let s = c.args.s.now in
     let e = c.closing_quote-n.ensures in
-    ap (String c.args.start) (c.trimmed_len-len.ensures ∙ ap (λ (l : List ℕ). length (trim l)) (part_to s c.closing_quote-n.result ∙ ap (λ (n : ℕ). take n s) e))
+    ap (λ (k : ℕ). Some (String c.args.start k)) (c.trimmed_len-len.ensures ∙ ap (λ (l : List ℕ). length (trim l)) (part_to s c.closing_quote-n.result ∙ ap (λ (n : ℕ). take n s) e))
     ∙ sym (string_says s _ (omega (arith, closing_le s)) (after _ _ _ e c.may_follow.ensures ∙ c.if-not-may_follow.false))

@@ -6,8 +6,8 @@ use Rattle.exports.specs.Loops.{cells_from, sum_then}
 use Rattle.exports.proofs.cells.sum_cells.Given as goal
 
 abbrev pub invariant-loop-cell : goal.invariant-loop-cell
-invariant-loop-cell l =
+invariant-loop-cell g l =
     sum_then l.sum (cells_from l.layout l.area l.current) ≡ reads_sum (cells_from l.layout l.area l.fn.cursor)
 
 abbrev pub decreases-loop-cell : goal.decreases-loop-cell
-decreases-loop-cell l = length (cells_from l.layout l.area l.current).cells
+decreases-loop-cell g l = length (cells_from l.layout l.area l.current).cells

@@ -1,14 +1,15 @@
--- The goals that `add_rows` leaves: a turn adds the cells that a row read stored, and leaves the rest as it was.
-use Rattle.exports.proofs.RowReads.{sum_kept, fewer_turns}
+-- The goals that `add_rows` leaves: a row that was read is one less to come, and any other answer ends the loop.
+use Rattle.std.proofs.Common.{◌∙◌, rules}
+use Rattle.exports.proofs.RowReads.{row_fewer, rows_ended}
 use Rattle.exports.proofs.rows.add_rows.Goals as goal
 
-pub loop-state-smaller : goal.loop-state-smaller
-loop-state-smaller c =
-    rw c.add_row-state.ensures.sum
-    (fewer_turns c.args.layout c.args.area.now c.loop-state.state c.loop-state.list c.loop-state-test.true)
+pub returns-in_default : goal.returns-in_default
+returns-in_default c =
+    c.ended.ensures
+    ∙ rows_ended c.args.layout c.args.area.now c.loop-n.current c.loop-n.list c.read_row-stepped.new.list c.read_row-stepped.result
+    c.read_row-stepped.ensures c.loop-n.sum _ _ (search rules) c.loop-n.auto.list c.loop-n.invariant
 
-pub loop-state-preserved : goal.loop-state-preserved
-loop-state-preserved c =
-    rw c.add_row-state.ensures.sum
-    (sum_kept c.args.layout c.args.area.now c.loop-state.state c.loop-state.list c.loop-state-test.true
-    _ _ c.loop-state.auto.list c.loop-state.invariant)
+pub loop-n-smaller : goal.loop-n-smaller
+loop-n-smaller c =
+    row_fewer c.args.layout c.args.area.now c.loop-n.current c.loop-n.list c.read_row-stepped.new.list c.read_row-stepped.result
+    c.read_row-stepped.ensures c.in-Ok-Some.n (search rules)

@@ -1,7 +1,5 @@
 -- `read_records` meets its contract: each record before END is noted in the arrays, which END and the end of the header leave as the index.
-use Rattle.std.proofs.Common.{◌≡◌, ℕ, ◌+◌, ◌<◌, ◌≤◌, ◌/◌, false, List, [], length, sym, ◌∙◌, ap, arith}
-use Rattle.ascii.specs.declared.Found.{Found}
-use Rattle.ascii.specs.declared.Found.TheVariants.{At}
+use Rattle.std.proofs.Common.{◌≡◌, ℕ, ◌+◌, ◌<◌, ◌≤◌, ◌/◌, false, List, [], length, sym, ◌∙◌, ap, arith, Option, Some}
 use Rattle.card.specs.Record.{card_at, is_end}
 use Rattle.keyword.specs.Names.{single, once_roots, other_roots, slot_names, once_names, position}
 use Rattle.keyword.proofs.Position.{position_at}
@@ -16,7 +14,7 @@ use Rattle.header.proofs.Pass.{none_check, none_read, over, pass_next, end_check
 use Rattle.header.proofs.records.read_records.Goals as goal
 
 -- a place that was found lies within the list
-within : {m : ℕ} (us : List (List ℕ)) (n : List ℕ) {p : Found} → m ≡ length us → p ≡ position n us → (s : ℕ) → p ≡ At s → s < m
+within : {m : ℕ} (us : List (List ℕ)) (n : List ℕ) {p : Option ℕ} → m ≡ length us → p ≡ position n us → (s : ℕ) → p ≡ Some s → s < m
 within us n e q s r = rw e (position_at n us s (sym q ∙ r)).0
 
 -- one record more that is not END

@@ -1,4 +1,5 @@
 -- `part` meets its contract: a name is missing, does not fit in the header, or is its stretch.
+use Rattle.std.specs.Prelude.{Some}
 use Rattle.layout.proofs.Named.{part_missing, part_short, part_whole}
 use Rattle.layout.proofs.ttype.part.Goals as goal
 
@@ -6,7 +7,7 @@ pub returns-in_default : goal.returns-in_default
 returns-in_default c = rw c.in_default.is (part_missing _)
 
 pub returns-then-header-to : goal.returns-then-header-to
-returns-then-header-to c = rw c.in-Stretch.is (part_short _ c.in-Stretch.start c.in-Stretch.len c.if-header-to.true)
+returns-then-header-to c = rw c.in-Some.is (part_short _ c.in-Some.field-0.start c.in-Some.field-0.len c.if-header-to.true)
 
 pub returns : goal.returns
-returns c = rw c.in-Stretch.is (part_whole _ c.in-Stretch.start c.in-Stretch.len c.if-header-to.false)
+returns c = rw c.in-Some.is (part_whole _ c.in-Some.field-0.start c.in-Some.field-0.len c.if-header-to.false)

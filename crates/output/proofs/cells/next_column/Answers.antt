@@ -1,7 +1,8 @@
 -- `next_column` meets its contract: after the last column come the lines of the opening, by its check.
-use Rattle.std.proofs.Common.{◌≡◌, ◌∙◌, true, List, ℕ, ◌≤◌}
+use Rattle.std.proofs.Common.{◌≡◌, ◌∙◌, true, List, ℕ, ◌≤◌, Result}
 use Rattle.layout.specs.declared.BinTable.{BinTable}
-use Rattle.walk.specs.declared.Opened.{Opened}
+use Rattle.refusal.specs.declared.Refusal.{Refusal}
+use Rattle.walk.specs.declared.TableData.{TableData}
 use Rattle.walk.specs.Step.{all_columns, open_with, opening_of}
 use Rattle.output.specs.declared.State.TheVariants.{Column}
 use Rattle.output.specs.State.{left}
@@ -9,26 +10,22 @@ use Rattle.output.proofs.Entries.{open_lines, open_lines_lem, column_next, colum
 use Rattle.output.proofs.cells.next_column.Goals as goal
 
 -- what the opening says of the lines that were left
-after : (h : List ℕ) (l : BinTable) (a s : List ℕ) (k : ℕ) (o : Opened)
+after : (h : List ℕ) (l : BinTable) (a s : List ℕ) (k : ℕ) (o : Result TableData Refusal)
     → opening_of o ≡ open_with l a all_columns true → l.tfields ≤ k
-    → open_lines h l a s o.check o.cursor ≡ left h l a s (Column k)
+    → open_lines h l a s o ≡ left h l a s (Column k)
 after h l a s k o told over = open_lines_lem h l a s o told ∙ columns_over h l a s k over
 
 pub returns-then-c-layout : goal.returns-then-c-layout
 returns-then-c-layout c =
     column_next c.args.header.now c.args.layout c.args.area.now c.args.steps.now c.args.c c.if-c-layout.true
 
-pub returns-in-Refused : goal.returns-in-Refused
-returns-in-Refused c =
+pub returns-in-Err : goal.returns-in-Err
+returns-in-Err c =
     let a = c.args in
-    rw c.in-Refused.is at
-    (after a.header.now a.layout a.area.now a.steps.now a.c c.open-opened.result
-    c.open-opened.ensures c.if-c-layout.false)
+    rw c.in-Err.is at (after a.header.now a.layout a.area.now a.steps.now a.c c.open.result c.open.ensures c.if-c-layout.false)
 
-pub returns-in-Passed : goal.returns-in-Passed
-returns-in-Passed c =
+pub returns-in-Ok : goal.returns-in-Ok
+returns-in-Ok c =
     let a = c.args in
     c.next_cell.ensures
-    ∙ (rw c.in-Passed.is at
-    (after a.header.now a.layout a.area.now a.steps.now a.c c.open-opened.result
-    c.open-opened.ensures c.if-c-layout.false))
+    ∙ (rw c.in-Ok.is at (after a.header.now a.layout a.area.now a.steps.now a.c c.open.result c.open.ensures c.if-c-layout.false))

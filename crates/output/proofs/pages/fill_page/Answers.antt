@@ -34,35 +34,35 @@ returns-in_default-clause-state c =
 
 pub returns-in_default-written-clause-len : goal.returns-in_default-written-clause-len
 returns-in_default-written-clause-len c =
-    let t = line_text c.args.header.now c.args.layout c.in-Line.line in
+    let t = line_text c.args.header.now c.args.layout c.in-Some.field-0.line in
     let r = no_room c.loop-line.out c.loop-line.len t (sym c.in_default-written.is ∙ c.put_line-written.ensures.to) in
-    (full _ _ _ _ _ c.loop-line.invariant _ _ (rw c.in-Line.is at c.next_line-next.ensures) r.full).len
+    (full _ _ _ _ _ c.loop-line.invariant _ _ (rw c.in-Some.is at c.next_line-next.ensures) r.full).len
 
 pub returns-in_default-written-clause-buffer : goal.returns-in_default-written-clause-buffer
 returns-in_default-written-clause-buffer c =
-    let t = line_text c.args.header.now c.args.layout c.in-Line.line in
+    let t = line_text c.args.header.now c.args.layout c.in-Some.field-0.line in
     let r = no_room c.loop-line.out c.loop-line.len t (sym c.in_default-written.is ∙ c.put_line-written.ensures.to) in
     c.put_line-written.ensures.buffer
     ∙ r.same
-    ∙ (full _ _ _ _ _ c.loop-line.invariant _ _ (rw c.in-Line.is at c.next_line-next.ensures) r.full).buffer
+    ∙ (full _ _ _ _ _ c.loop-line.invariant _ _ (rw c.in-Some.is at c.next_line-next.ensures) r.full).buffer
 
 pub returns-in_default-written-clause-state : goal.returns-in_default-written-clause-state
 returns-in_default-written-clause-state c =
-    let t = line_text c.args.header.now c.args.layout c.in-Line.line in
+    let t = line_text c.args.header.now c.args.layout c.in-Some.field-0.line in
     let r = no_room c.loop-line.out c.loop-line.len t (sym c.in_default-written.is ∙ c.put_line-written.ensures.to) in
-    (full _ _ _ _ _ c.loop-line.invariant _ _ (rw c.in-Line.is at c.next_line-next.ensures) r.full).state
+    (full _ _ _ _ _ c.loop-line.invariant _ _ (rw c.in-Some.is at c.next_line-next.ensures) r.full).state
 
 pub returns-in_default-written-clause-whole : goal.returns-in_default-written-clause-whole
 returns-in_default-written-clause-whole c room none =
-    let t = line_text c.args.header.now c.args.layout c.in-Line.line in
+    let t = line_text c.args.header.now c.args.layout c.in-Some.field-0.line in
     let r = no_room c.loop-line.out c.loop-line.len t (sym c.in_default-written.is ∙ c.put_line-written.ensures.to) in
-    absurd (omega (arith, r.full, line_short c.args.header.now c.args.layout c.in-Line.line, c.loop-line.invariant.length_same))
+    absurd (omega (arith, r.full, line_short c.args.header.now c.args.layout c.in-Some.field-0.line, c.loop-line.invariant.length_same))
 
 pub loop-line-preserved : goal.loop-line-preserved
 loop-line-preserved c =
-    let t = line_text c.args.header.now c.args.layout c.in-Line.line in
-    let r = written_to_lem c.loop-line.out c.loop-line.len t c.in-To.end
-    (sym c.in-To.is ∙ c.put_line-written.ensures.to) in
-    more_filled _ _ _ _ t _ c.put_line-written.new.out c.in-To.end
-    (filled _ _ _ _ _ c.loop-line.invariant _ _ (rw c.in-Line.is at c.next_line-next.ensures))
-    r c.put_line-written.ensures.buffer (line_some c.args.header.now c.args.layout c.in-Line.line)
+    let t = line_text c.args.header.now c.args.layout c.in-Some.field-0.line in
+    let r = written_to_lem c.loop-line.out c.loop-line.len t c.in-Some-written.end
+    (sym c.in-Some-written.is ∙ c.put_line-written.ensures.to) in
+    more_filled _ _ _ _ t _ c.put_line-written.new.out c.in-Some-written.end
+    (filled _ _ _ _ _ c.loop-line.invariant _ _ (rw c.in-Some.is at c.next_line-next.ensures))
+    r c.put_line-written.ensures.buffer (line_some c.args.header.now c.args.layout c.in-Some.field-0.line)

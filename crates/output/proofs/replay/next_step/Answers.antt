@@ -1,9 +1,11 @@
 -- `next_step` meets its contract: the lines that are left, by the command of the line.
-use Rattle.std.proofs.Common.{◌∙◌, sym, ◌+◌, length}
-use Rattle.walk.specs.Walk.{read_cell, seek}
+use Rattle.std.proofs.Common.{◌≡◌, Bool, ◌∙◌, sym, ◌+◌, ap, length, Some, None}
+use mathlib.Core.Logic.{◌⊎◌, inl, inr}
+use Rattle.steps.specs.declared.Command.{Command}
 use Rattle.steps.specs.declared.Command.TheVariants as C
 use Rattle.steps.proofs.Says.{row_few}
-use Rattle.output.proofs.Lines.{steps_command, steps_none, answer_next_lem, row_next_lem}
+use Rattle.output.specs.Replay.{none}
+use Rattle.output.proofs.Lines.{asked_of, steps_command, steps_none, cell_next_lem, seek_next_lem, row_next_lem}
 use Rattle.output.proofs.replay.next_step.Goals as goal
 
 pub returns-then-steps-at : goal.returns-then-steps-at
@@ -14,59 +16,52 @@ pub returns-in-Cell : goal.returns-in-Cell
 returns-in-Cell c =
     let a = c.args in
     let line = c.line_at-line.result.now in
-    rw c.answered.ensures
-    (answer_next_lem a.header.now a.layout a.area.now a.steps.now (a.at + length line + 1) a.cursor
-    read_cell c.next-stepped.result c.next-stepped.ensures
-    ∙ steps_command a.layout a.area.now a.steps.now a.at a.cursor line C.Cell
-    c.if-steps-at.false c.line_at-line.ensures c.in-Cell.ensures)
+    let y = sym (c.in-Some.is ∙ ap Some c.in-Cell.is) ∙ c.parse_command.ensures in
+    rw c.cell_answered-next.ensures
+    (cell_next_lem a.header.now a.layout a.area.now a.steps.now (a.at + length line + 1) a.cursor
+    c.next-stepped.result c.next-stepped.ensures
+    ∙ steps_command a.layout a.area.now a.steps.now a.at a.cursor line (Some C.Cell) c.if-steps-at.false c.line_at-line.ensures y)
 
 pub returns-in-Row : goal.returns-in-Row
 returns-in-Row c =
     let a = c.args in
     let line = c.line_at-line.result.now in
     let n = c.in-Row.n in
-    rw c.row_answered.ensures
+    let y = sym (c.in-Some.is ∙ ap Some c.in-Row.is) ∙ c.parse_command.ensures in
+    rw c.row_answered-next.ensures
     (row_next_lem a.header.now a.layout a.area.now a.steps.now (a.at + length line + 1) a.cursor
     n c.row_cell-read.result.stepped
-    (row_few line n (sym c.in-Row.ensures)) (rw c.blank_cell.ensures at c.row_cell-read.ensures.step)
-    ∙ steps_command a.layout a.area.now a.steps.now a.at a.cursor line (C.Row n)
-    c.if-steps-at.false c.line_at-line.ensures c.in-Row.ensures)
+    (row_few line n (sym y)) (rw c.blank_cell.ensures at c.row_cell-read.ensures.step)
+    ∙ steps_command a.layout a.area.now a.steps.now a.at a.cursor line (Some (C.Row n)) c.if-steps-at.false c.line_at-line.ensures y)
 
 pub returns-in-Seek : goal.returns-in-Seek
 returns-in-Seek c =
     let a = c.args in
     let line = c.line_at-line.result.now in
     let row = c.in-Seek.row in
-    rw c.answered-in-Seek.ensures
-    (answer_next_lem a.header.now a.layout a.area.now a.steps.now (a.at + length line + 1) a.cursor
-    (seek row) c.seek_to_row-stepped.result c.seek_to_row-stepped.ensures
-    ∙ steps_command a.layout a.area.now a.steps.now a.at a.cursor line (C.Seek row)
-    c.if-steps-at.false c.line_at-line.ensures c.in-Seek.ensures)
+    let y = sym (c.in-Some.is ∙ ap Some c.in-Seek.is) ∙ c.parse_command.ensures in
+    rw c.seek_answered-next.ensures
+    (seek_next_lem a.header.now a.layout a.area.now a.steps.now (a.at + length line + 1) a.cursor
+    row c.seek_to_row-stepped.result c.seek_to_row-stepped.ensures
+    ∙ steps_command a.layout a.area.now a.steps.now a.at a.cursor line (Some (C.Seek row)) c.if-steps-at.false c.line_at-line.ensures y)
+
+pub returns-in_default : goal.returns-in_default
+returns-in_default c =
+    let a = c.args in
+    let y = sym c.in_default.is ∙ c.parse_command.ensures in
+    rw c.bad_line.ensures
+    (steps_command a.layout a.area.now a.steps.now a.at a.cursor c.line_at-line.result.now None c.if-steps-at.false c.line_at-line.ensures y)
+
+-- a command that sets something is no step
+no_step : (k : Command) → ((k ≡ C.ChooseAll) ⊎ ((k ≡ C.Choose) ⊎ ((on : Bool) × (k ≡ C.Heap on)))) → asked_of (Some k) ≡ none
+no_step k (inl e) = rw e
+no_step k (inr (inl e)) = rw e
+no_step k (inr (inr (on, e))) = rw e
 
 pub returns-in-ChooseAll : goal.returns-in-ChooseAll
 returns-in-ChooseAll c =
     let a = c.args in
-    rw c.bad_line.ensures
-    (steps_command a.layout a.area.now a.steps.now a.at a.cursor c.line_at-line.result.now C.ChooseAll
-    c.if-steps-at.false c.line_at-line.ensures c.in-ChooseAll.ensures)
-
-pub returns-in-Choose : goal.returns-in-Choose
-returns-in-Choose c =
-    let a = c.args in
-    rw c.bad_line-in-Choose.ensures
-    (steps_command a.layout a.area.now a.steps.now a.at a.cursor c.line_at-line.result.now C.Choose
-    c.if-steps-at.false c.line_at-line.ensures c.in-Choose.ensures)
-
-pub returns-in-Heap : goal.returns-in-Heap
-returns-in-Heap c =
-    let a = c.args in
-    rw c.bad_line-in-Heap.ensures
-    (steps_command a.layout a.area.now a.steps.now a.at a.cursor c.line_at-line.result.now (C.Heap c.in-Heap.field-0)
-    c.if-steps-at.false c.line_at-line.ensures c.in-Heap.ensures)
-
-pub returns-in-Bad : goal.returns-in-Bad
-returns-in-Bad c =
-    let a = c.args in
-    rw c.bad_line-in-Bad.ensures
-    (steps_command a.layout a.area.now a.steps.now a.at a.cursor c.line_at-line.result.now C.Bad
-    c.if-steps-at.false c.line_at-line.ensures c.in-Bad.ensures)
+    let y = sym c.in-Some.is ∙ c.parse_command.ensures in
+    let s = steps_command a.layout a.area.now a.steps.now a.at a.cursor c.line_at-line.result.now (Some c.in-Some.command)
+    c.if-steps-at.false c.line_at-line.ensures y in
+    rw c.bad_line-next.ensures (rw (no_step c.in-Some.command c.in-ChooseAll.is) at s)

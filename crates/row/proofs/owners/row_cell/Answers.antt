@@ -1,6 +1,6 @@
 -- `row_cell` meets its contract: the row is read into the first cells of the list, over the cursor that is lent, and the
 -- whole of the list is looked at afterwards.
-use Rattle.walk.specs.Step.{stepped}
+use Rattle.row.specs.Plan.{stepped}
 use Rattle.row.proofs.Owned.{own_step, own_cell}
 use Rattle.row.proofs.owners.row_cell.Goals as goal
 

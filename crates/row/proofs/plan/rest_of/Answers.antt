@@ -1,5 +1,7 @@
 -- `rest_of` meets its contract. What is known of the plan and of a field's plan is first said of the plan of the cursor's row and of its column.
+use Rattle.std.specs.Prelude.{Option, Ok, Err}
 use Rattle.std.proofs.Common.{ℕ, ◌≡◌, ◌+◌, ◌≤◌, ◌<◌, ◌^◌, true, false, List, sym, ap, subst, ◌∙◌, length, get_or, drop, add-one, arith}
+use Rattle.refusal.specs.declared.Refusal.TheVariants.{ArrayOutsideHeap}
 use Rattle.layout.specs.declared.BinTable.{BinTable}
 use Rattle.layout.specs.Layout.{layout_ok, no_column}
 use Rattle.walk.specs.declared.TableData.{TableData}
@@ -10,7 +12,6 @@ use Rattle.table.specs.Scan.{next_chosen}
 use Rattle.table.proofs.ToNext.{next_later, next_chosen_lem}
 use Rattle.row.specs.declared.plan.RowPlan.{RowPlan}
 use Rattle.row.specs.declared.plan.FieldPlan.{FieldPlan}
-use Rattle.row.specs.declared.plan.Rest.TheVariants.{Cells, OutsideHeap}
 use Rattle.row.specs.Plan.{is_outside, left_of, plan_at, plan_for}
 use Rattle.row.proofs.Fields.{field_on}
 use Rattle.row.proofs.Left.{Left, row, left_start, left_next, left_outside, left_bound, left_on, left_end}
@@ -18,14 +19,14 @@ use Rattle.row.proofs.Stored.{start_fits}
 use Rattle.row.proofs.plan.rest_of.Goals as goal
 
 -- a plan p that is the one of the cursor's row
-module _ (l : BinTable) (a : List ℕ) (cursor : TableData) (s : Stepped) (p : RowPlan) (e : p ≡ plan_for l cursor s) where
+module _ (l : BinTable) (a : List ℕ) (cursor : TableData) (s : Stepped (Option ℕ)) (p : RowPlan) (e : p ≡ plan_for l cursor s) where
   start : cursor.row < l.naxis2 → Left l a p 0 cursor.passed 0
   start h = rw e (left_start l a cursor s h)
 
   place : layout_ok l ≡ true → cursor.row < l.naxis2 → (k : ℕ) → k < l.tfields → p.start + (get_or l.columns k no_column).start < 2 ^ 64
   place ok h k w = rw e (start_fits l a cursor s ok h k w)
 
-  finish : (total skip k : ℕ) → l.tfields ≤ k → Left l a p total skip k → left_of (gather (drop cursor.passed (row l a (plan_for l cursor s)))) ≡ Cells total
+  finish : (total skip k : ℕ) → l.tfields ≤ k → Left l a p total skip k → left_of (gather (drop cursor.passed (row l a (plan_for l cursor s)))) ≡ Ok total
   finish total skip k h i = left_end l a cursor s total skip k h (rw e at i)
 
   -- a turn of the loop, in which f is the plan of column k
@@ -36,7 +37,7 @@ module _ (l : BinTable) (a : List ℕ) (cursor : TableData) (s : Stepped) (p : R
     here : Left l a (plan_for l cursor s) total skip k
     here = subst (λ (x : RowPlan). Left l a x total skip k) e i
 
-    stop : is_outside f ≡ true → left_of (gather (drop cursor.passed (row l a (plan_for l cursor s)))) ≡ OutsideHeap k
+    stop : is_outside f ≡ true → left_of (gather (drop cursor.passed (row l a (plan_for l cursor s)))) ≡ Err (ArrayOutsideHeap k)
     stop t = left_outside l a cursor s total skip k h here (rw (← fielded) t)
 
     bound : total + f.n ≤ length (row l a (plan_for l cursor s))

@@ -9,15 +9,15 @@ loop-at-preserved c =
     let s = c.args.text.now in
     let b = c.part_end-end in (
       omega (arith, b.ensures.inside),
-      sym (all_next s c.loop-at.at c.loop-at-test.true b.result b.ensures.part _ (sym c.in-At.ensures))
+      sym (all_next s c.loop-at.at c.loop-at-test.true b.result b.ensures.part _ (sym c.in-Some.ensures))
           ∙ c.loop-at.invariant.1,
     )
 
-pub returns-in-Nothing : goal.returns-in-Nothing
-returns-in-Nothing c =
+pub returns-in-None : goal.returns-in-None
+returns-in-None c =
     let b = c.part_end-end in
     sym
-    (all_stop c.args.text.now c.loop-at.at c.loop-at-test.true b.result b.ensures.part (sym c.in-Nothing.ensures))
+    (all_stop c.args.text.now c.loop-at.at c.loop-at-test.true b.result b.ensures.part (sym c.in-None.ensures))
     ∙ c.loop-at.invariant.1
 
 pub returns : goal.returns

@@ -10,7 +10,7 @@ loop-at-preserved c =
     let l = c.loop-at in
     let h = c.loop-at-test.true in
     let b = c.part_end-end in
-    let number = sym c.in-At.ensures in (
+    let number = sym c.in-Some.ensures in (
       omega (arith, b.ensures.inside),
       c.place_number.auto.list ∙ l.invariant.1,
       sym (all_next s l.at h b.result b.ensures.part _ number) ∙ l.invariant.2,
@@ -18,11 +18,11 @@ loop-at-preserved c =
           (sym (place_next s l.at h b.result b.ensures.part l.list _ number l.invariant.2) ∙ l.invariant.3),
     )
 
-pub returns-in-Nothing : goal.returns-in-Nothing
-returns-in-Nothing c =
+pub returns-in-None : goal.returns-in-None
+returns-in-None c =
     let l = c.loop-at in
     let b = c.part_end-end in
-    let none = all_stop c.args.text.now l.at c.loop-at-test.true b.result b.ensures.part (sym c.in-Nothing.ensures) in
+    let none = all_stop c.args.text.now l.at c.loop-at-test.true b.result b.ensures.part (sym c.in-None.ensures) in
     absurd (false≢true (sym none ∙ l.invariant.2))
 
 pub returns : goal.returns

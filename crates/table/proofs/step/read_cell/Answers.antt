@@ -15,16 +15,16 @@ pub entry_at-entry-requires : goal.entry_at-entry-requires
 entry_at-entry-requires c =
     let rows = row_entries c.args.layout c.args.area.now c.args.cursor.choice c.args.cursor.heap in
     let n = c.args.layout.naxis2 in
-    let f = place_at rows n (next rows n (n - c.args.cursor.row) c.args.cursor.row c.args.cursor.passed) c.in-At.row c.in-At.passed c.in-At.size
-    (is_next rows n c.args.cursor.row c.args.cursor.passed) (sym c.find_entry-place.ensures ∙ c.in-At.is) in
+    let f = place_at rows n (next rows n (n - c.args.cursor.row) c.args.cursor.row c.args.cursor.passed) c.in-Some.field-0
+    (is_next rows n c.args.cursor.row c.args.cursor.passed) (sym c.find_entry-place.ensures ∙ c.in-Some.is) in
     (belongs_fits c.args.layout c.args.area.now c.args.cursor c.requires, f.1.1.1, rw f.1.0 at f.1.1.0)
 
 pub read_entry-requires : goal.read_entry-requires
 read_entry-requires c =
     let rows = row_entries c.args.layout c.args.area.now c.args.cursor.choice c.args.cursor.heap in
     let n = c.args.layout.naxis2 in
-    let f = place_at rows n (next rows n (n - c.args.cursor.row) c.args.cursor.row c.args.cursor.passed) c.in-At.row c.in-At.passed c.in-At.size
-    (is_next rows n c.args.cursor.row c.args.cursor.passed) (sym c.find_entry-place.ensures ∙ c.in-At.is) in (
+    let f = place_at rows n (next rows n (n - c.args.cursor.row) c.args.cursor.row c.args.cursor.passed) c.in-Some.field-0
+    (is_next rows n c.args.cursor.row c.args.cursor.passed) (sym c.find_entry-place.ensures ∙ c.in-Some.is) in (
       omega (
         arith,
         f.1.1.1,
@@ -33,21 +33,21 @@ read_entry-requires c =
       f.1.1.0,
     )
 
-pub returns-in-At : goal.returns-in-At
-returns-in-At c =
+pub returns : goal.returns
+returns c =
     let rows = row_entries c.args.layout c.args.area.now c.args.cursor.choice c.args.cursor.heap in
     let n = c.args.layout.naxis2 in
-    let f = place_at rows n (next rows n (n - c.args.cursor.row) c.args.cursor.row c.args.cursor.passed) c.in-At.row c.in-At.passed c.in-At.size
-    (is_next rows n c.args.cursor.row c.args.cursor.passed) (sym c.find_entry-place.ensures ∙ c.in-At.is) in
+    let f = place_at rows n (next rows n (n - c.args.cursor.row) c.args.cursor.row c.args.cursor.passed) c.in-Some.field-0
+    (is_next rows n c.args.cursor.row c.args.cursor.passed) (sym c.find_entry-place.ensures ∙ c.in-Some.is) in
     c.read_entry.ensures
     ∙ rw (c.entry_at-entry.ensures, f.1.0) (sym (cell_at c.args.layout c.args.area.now c.args.cursor c.requires _ f.0))
 
-pub returns-in-Nothing : goal.returns-in-Nothing
-returns-in-Nothing c =
+pub returns-in_default : goal.returns-in_default
+returns-in_default c =
     let rows = row_entries c.args.layout c.args.area.now c.args.cursor.choice c.args.cursor.heap in
     let n = c.args.layout.naxis2 in
     rw c.placed.ensures
     (sym
     (cell_at c.args.layout c.args.area.now c.args.cursor c.requires no_entry
     (place_none rows n (next rows n (n - c.args.cursor.row) c.args.cursor.row c.args.cursor.passed)
-    (sym c.find_entry-place.ensures ∙ c.in-Nothing.is))))
+    (sym c.find_entry-place.ensures ∙ c.in_default.is))))

@@ -9,16 +9,16 @@ use Rattle.tform.proofs.parsing.repeat_count.Goals as goal
 pub slice_bounds-parse_number-end : goal.slice_bounds-parse_number-end
 slice_bounds-parse_number-end c = sym (length-take-le _ _ (omega (arith, c.requires, front_le digit c.args.text.now)))
 
-pub returns-in-At : goal.returns-in-At
-returns-in-At c =
+pub returns-in-Some : goal.returns-in-Some
+returns-in-Some c =
     let s = c.args.text.now in
     let read = digits_any s c.args.digits c.if-digits-eq0.false c.requires in
-    let e = found_is (decimal 0 (take c.args.digits s)) _ (c.in-At.ensures ∙ read) in
+    let e = found_is (decimal 0 (take c.args.digits s)) _ (c.in-Some.ensures ∙ read) in
     rw (ne_eqb _ _ c.if-digits-eq0.false) (omega (arith, c.capped.ensures, e))
 
-pub returns-in-Nothing : goal.returns-in-Nothing
-returns-in-Nothing c =
+pub returns-in-None : goal.returns-in-None
+returns-in-None c =
     let s = c.args.text.now in
     let read = digits_any s c.args.digits c.if-digits-eq0.false c.requires in
-    let h = none_large (decimal 0 (take c.args.digits s)) (c.in-Nothing.ensures ∙ read) in
+    let h = none_large (decimal 0 (take c.args.digits s)) (c.in-None.ensures ∙ read) in
     rw (ne_eqb _ _ c.if-digits-eq0.false) (omega (arith, h))

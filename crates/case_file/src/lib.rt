@@ -1,0 +1,115 @@
+// What the programs that read a file of cases share: the numbers and blocks of such a file, the loop over its cases,
+// and how a refusal is printed.
+#![tactic(auto)]
+
+ghost use Rattle.std.specs.Prelude.{◌≡◌, ◌+◌, ◌<◌, ◌++◌, length, drop, codes, Some, IfSome, MatchOption};
+ghost use Rattle.std.specs.Fmt.{decimal};
+ghost use Rattle.std.specs.Iterator.{at_most};
+ghost use Rattle.std.specs.List.{IsSplitAt};
+ghost use Rattle.refusal.specs.Refusal.{number_of, place_of};
+ghost use Rattle.case_file.specs.Number.{front_number};
+
+use refusal::Refusal;
+use std::marker::PhantomData;
+use std::{fmt, io};
+
+// The number that the first four bytes say, high byte first, and what stands after it; none where there are fewer.
+pub fn split_number(bytes: &[u8]) -> Option<(u32, &[u8])>
+    ensures cases { MatchOption result (length bytes.now < 4)
+        (λ p. (p.0 ≡ front_number bytes.now) × (p.1.now ≡ drop 4 bytes.now)) }
+    ensures len { IfSome result (λ p. length p.1.now + 4 ≡ length bytes.now) }
+{
+    let (number, rest) = bytes.split_first_chunk::<4>()?;
+    Some((u32::from_be_bytes(*number), rest))
+}
+
+// The block at the front, which has its length before it, and what stands after it; none where it is cut short.
+pub fn split_block(bytes: &[u8]) -> Option<(&[u8], &[u8])>
+    ensures cases { MatchOption result (length bytes.now < front_number bytes.now + 4)
+        (λ p. IsSplitAt (drop 4 bytes.now) (front_number bytes.now) p.0.now p.1.now) }
+    ensures len { IfSome result (λ p. length p.0.now + length p.1.now + 4 ≡ length bytes.now) }
+{
+    let (len, rest) = split_number(bytes)?;
+    rest.split_at_checked(len as usize)
+}
+
+// A refusal, shown by the number and place that docs/FORMAT.md gives.
+#[derive(Clone, Copy)]
+pub struct Refused(pub Refusal);
+
+impl fmt::Display for Refused {
+    ghost output = { λ r. Some (codes "refused " ++ decimal (number_of r.0) ++ codes " " ++ decimal (place_of r.0)) };
+
+    fn fmt<W: fmt::Write>(&self, f: &mut fmt::Formatter<W>) -> fmt::Result {
+        let number = refusal::number(self.0);
+        let place = refusal::place(self.0);
+        write!(f, "refused {number} {place}")
+    }
+}
+
+// Prints what the checks come to: the refusal, or the word where there is none.
+pub fn print_check(rt: &impl Print, refusal: Option<Refusal>, passed: &str) -> io::Result<()> {
+    match refusal {
+        None => println!(rt; "{passed}"),
+        Some(refusal) => println!(rt; "{}", Refused(refusal)),
+    }
+}
+
+// A case of a file.
+pub trait Case<'a>: Sized {
+    // The case at the front of the bytes and what stands after it; none where it is cut short.
+    fn split(bytes: &'a [u8]) -> Option<(Self, &'a [u8])>
+        ensures shorter { IfSome result (λ p. length p.1.now < length bytes.now) };
+
+    // Prints it under its number.
+    fn print(self, rt: &HostRuntime, number: usize) -> io::Result<()>;
+}
+
+// The cases of a file, one after the other. A last one that is cut short comes as `None`, and nothing after it.
+#[derive(Drop)]
+struct Cases<'a, C> {
+    rest: &'a [u8],
+    kind: PhantomData<C>,
+}
+
+impl<'a, C: Case<'a>> Cases<'a, C> {
+    fn new(file: &'a [u8]) -> Self {
+        Cases {
+            rest: file,
+            kind: PhantomData,
+        }
+    }
+}
+
+impl<'a, C: Case<'a>> Iterator for Cases<'a, C> {
+    type Item = Option<C>;
+
+    ghost remaining = { λ s. at_most (length s.rest.now) };
+
+    fn next(&mut self) -> Option<Option<C>> {
+        if self.rest.is_empty() {
+            return None;
+        }
+        match C::split(self.rest) {
+            Some((case, after)) => {
+                self.rest = after;
+                Some(Some(case))
+            }
+            None => {
+                self.rest = &[];
+                Some(None)
+            }
+        }
+    }
+}
+
+// Prints each case of a file, by its number from 0, and `cut` after them where the last one is cut short.
+pub fn print_cases<'a, C: Case<'a>>(rt: &HostRuntime, file: &'a [u8]) -> io::Result<()> {
+    for (number, case) in Cases::<C>::new(file).enumerate() {
+        match case {
+            Some(case) => case.print(rt, number)?,
+            None => println!(rt; "cut")?,
+        }
+    }
+    Ok(())
+}

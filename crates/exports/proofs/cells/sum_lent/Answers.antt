@@ -1,8 +1,0 @@
--- The goal that `sum_lent` leaves: a cell that was read is one less to come.
-use Rattle.exports.proofs.CellReads.{cell_fewer}
-use Rattle.exports.proofs.cells.sum_lent.Goals as goal
-
-pub loop-cell-smaller : goal.loop-cell-smaller
-loop-cell-smaller c =
-    cell_fewer c.args.layout c.args.area.now c.loop-cell.current c.next-stepped.result c.next-stepped.ensures
-    c.in-Cell.cell c.in-Cell.is

@@ -1,9 +1,0 @@
--- The place is within the file, and each case took a byte or more. The measure is the bytes that are left.
-use Rattle.std.proofs.Common.{length, ◌-◌, ◌≤◌}
-use Rattle.header_cases.proofs.print_cases.Given as goal
-
-abbrev pub invariant-loop-at : goal.invariant-loop-at
-invariant-loop-at l = (l.at ≤ length l.file) × (l.number ≤ l.at)
-
-abbrev pub decreases-loop-at : goal.decreases-loop-at
-decreases-loop-at l = length l.file - l.at

@@ -1,0 +1,57 @@
+// What is printed of a form, a name, a column that was found, and a stretch of bytes.
+use layout::Name;
+use std::fmt;
+use tform::TFormType;
+
+// The form's letter, after that of its descriptor.
+#[derive(Clone, Copy)]
+pub struct Form(pub TFormType);
+
+impl fmt::Display for Form {
+    fn fmt<W: fmt::Write>(&self, f: &mut fmt::Formatter<W>) -> fmt::Result {
+        match self.0 {
+            TFormType::Items(ty) => write!(f, "{}", char::from(tform::letter(ty))),
+            TFormType::P(ty) => write!(f, "P{}", char::from(tform::letter(ty))),
+            TFormType::Q(ty) => write!(f, "Q{}", char::from(tform::letter(ty))),
+        }
+    }
+}
+
+// Where a column's name stands in the header.
+#[derive(Clone, Copy)]
+pub struct Stretch(pub Option<Name>);
+
+impl fmt::Display for Stretch {
+    fn fmt<W: fmt::Write>(&self, f: &mut fmt::Formatter<W>) -> fmt::Result {
+        match self.0 {
+            None => write!(f, "missing"),
+            Some(Name { start, len }) => write!(f, "stretch {start} {len}"),
+        }
+    }
+}
+
+// The column that has a name.
+#[derive(Clone, Copy)]
+pub struct Place(pub Option<usize>);
+
+impl fmt::Display for Place {
+    fn fmt<W: fmt::Write>(&self, f: &mut fmt::Formatter<W>) -> fmt::Result {
+        match self.0 {
+            Some(column) => write!(f, "{column}"),
+            None => write!(f, "none"),
+        }
+    }
+}
+
+// Each byte as a number, after a space.
+#[derive(Clone, Copy)]
+pub struct Bytes<'a>(pub &'a [u8]);
+
+impl fmt::Display for Bytes<'_> {
+    fn fmt<W: fmt::Write>(&self, f: &mut fmt::Formatter<W>) -> fmt::Result {
+        for byte in self.0 {
+            write!(f, " {byte}")?;
+        }
+        Ok(())
+    }
+}

@@ -1,0 +1,137 @@
+// The calls that a step makes, and what is printed of them.
+use crate::file::Call;
+use crate::shown::Shown;
+use cell::{Cell, DataValue};
+use layout::BinTable;
+use refusal::Refusal;
+use std::alloc::{AllocError, Global};
+use std::io;
+use walk::{Stepped, TableData};
+
+// What a list is filled with before it is lent: a cell that no table gives.
+fn other() -> Cell {
+    Cell {
+        row: 999,
+        column: 99,
+        idx: 9,
+        value: DataValue::Bit(165),
+    }
+}
+
+// How many cells a row read stored, none where it was refused or at the end.
+fn cells_read(answer: Result<Option<u64>, Refusal>) -> usize {
+    match answer {
+        Ok(Some(cells)) => cells as usize,
+        Ok(None) | Err(_) => 0,
+    }
+}
+
+// Whether cell k of a list of n is written: of a short list every one; of a long one the first eight, those up to
+// two away from where the row read ended, and the last two.
+fn is_shown(k: usize, n: usize, cells: usize) -> bool {
+    n <= 24 || k < 8 || k.abs_diff(cells) <= 2 || k.abs_diff(n) <= 2
+}
+
+// The table under test, with the area that a step is lent, and whether its calls are made over a lent cursor.
+#[derive(Clone, Copy)]
+pub struct Reader<'a> {
+    pub layout: BinTable,
+    pub area: &'a [u8],
+    pub over_lent: bool,
+}
+
+impl Reader<'_> {
+    fn next(&self, cursor: TableData) -> Stepped<Option<Cell>> {
+        if self.over_lent {
+            let mut own = cursor;
+            let answer = row::next(&mut own, self.layout, self.area);
+            Stepped {
+                cursor: own,
+                answer,
+            }
+        } else {
+            table::next(self.layout, self.area, cursor)
+        }
+    }
+
+    fn seek_to_row(&self, cursor: TableData, row: usize) -> Stepped<()> {
+        if self.over_lent {
+            let mut own = cursor;
+            let answer = row::seek_to_row(&mut own, self.layout, self.area, row);
+            Stepped {
+                cursor: own,
+                answer,
+            }
+        } else {
+            table::seek_to_row(self.layout, self.area, cursor, row)
+        }
+    }
+
+    // The row read into a list of n cells, with what it returned and the list after it.
+    fn next_row(
+        &self,
+        alloc: Global,
+        cursor: TableData,
+        n: usize,
+    ) -> Result<(Stepped<Option<u64>>, Vec<Cell>), AllocError> {
+        let mut list = vec![in alloc; other(); n]?;
+        if self.over_lent {
+            let mut own = cursor;
+            let answer = row::next_row(&mut own, self.layout, self.area, list.as_mut_slice());
+            let stepped = Stepped {
+                cursor: own,
+                answer,
+            };
+            return Ok((stepped, list));
+        }
+        // By value the list is that of `row_cell`, which gives one cell of it: the read is done anew for each that is shown.
+        let read = row::owners::row_cell(self.layout, self.area, cursor, other(), n, 0);
+        let cells = cells_read(read.stepped.answer);
+        for (k, cell) in list.iter_mut().enumerate() {
+            if is_shown(k, n, cells) {
+                *cell = row::owners::row_cell(self.layout, self.area, cursor, other(), n, k).cell;
+            }
+        }
+        Ok((read.stepped, list))
+    }
+
+    // A row read. Cells of the list past those that it stored must be as they were, so they are printed too.
+    fn print_row(&self, rt: &HostRuntime, cursor: TableData, n: usize) -> io::Result<TableData> {
+        let (stepped, list) = self.next_row(rt.alloc(), cursor, n)?;
+        println!(rt; "{}", Shown(stepped.answer))?;
+        println!(rt; "{}", Shown(stepped.cursor))?;
+        let cells = cells_read(stepped.answer);
+        for (k, cell) in list
+            .iter()
+            .enumerate()
+            .filter(|(k, _)| is_shown(*k, n, cells))
+        {
+            println!(rt; "list {k} {}", Shown(*cell))?;
+        }
+        Ok(stepped.cursor)
+    }
+
+    // The cursor after a call, whose answer is printed.
+    pub fn print_call(
+        &self,
+        rt: &HostRuntime,
+        cursor: TableData,
+        call: Call,
+    ) -> io::Result<TableData> {
+        let after = match call {
+            Call::Cell => {
+                let stepped = self.next(cursor);
+                println!(rt; "{}", Shown(stepped.answer))?;
+                stepped.cursor
+            }
+            Call::Seek { row } => {
+                let stepped = self.seek_to_row(cursor, row);
+                println!(rt; "{}", Shown(stepped.answer))?;
+                stepped.cursor
+            }
+            Call::Row { len } => return self.print_row(rt, cursor, len),
+        };
+        println!(rt; "{}", Shown(after))?;
+        Ok(after)
+    }
+}
