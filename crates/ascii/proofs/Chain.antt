@@ -1,6 +1,6 @@
 -- Texts that are put one after another, each at the place after the one before, and how long they are.
 -- Assumes nothing.
-use Rattle.std.specs.Prelude.{Option, Some, None}
+use Rattle.std.specs.Prelude.{Option, Some, None, leb, unwrap_or}
 use Prim.Native.Nat.{ℕ, ◌+◌, ◌-◌, ◌≤◌, ◌<◌}
 use mathlib.Core.Path.{◌≡◌, refl, sym, ap, subst, ◌∙◌}
 use mathlib.Core.List.{List, [], ◌∷◌, ◌++◌, append_assoc}
@@ -10,6 +10,7 @@ use lib.ListN.{length, take, length-append, length-replicate, take-append-drop}
 use borrow.Author.Tests.{le-leb, lt-leb}
 use Rattle.ascii.specs.Buffer.{put_in, written, written_to, place_after}
 use Rattle.ascii.specs.Number.{decimal_text, right_aligned}
+use Rattle.ascii.proofs.Cases.{either}
 use Rattle.ascii.proofs.Lengths.{decimal_length, put_put, take_put}
 
 -- what a writer ensures where there is room: the place after the text, and the buffer with it
@@ -64,6 +65,11 @@ module _ (o : List ℕ) (at : ℕ) (t : List ℕ) where
   pub not_tried : length o < at + length t → Tried o at t at o
   unfolding place_after written
   not_tried h = rw (lt-leb (at + length t) (length o) h) (refl, refl)
+
+-- the place of a text that was put where there is room, and else the place given
+pub place_of : (o : List ℕ) (at : ℕ) (t : List ℕ) → unwrap_or (written_to o at t) at ≡ place_after o at t
+unfolding place_after written_to
+place_of o at t = either (leb (at + length t) (length o)) (λ e. rw e) (λ e. rw e)
 
 -- a number has 20 digits at most
 pub number_fitted : (o : List ℕ) (at n : ℕ) {p : ℕ} {o' : List ℕ} → at + 20 ≤ length o → Tried o at (decimal_text n) p o' → Put o at (decimal_text n) p o'

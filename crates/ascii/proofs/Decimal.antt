@@ -2,14 +2,14 @@
 -- Assumes nothing.
 use mathlib.Core.Path.{◌≡◌, refl}
 use mathlib.Core.List.{List, [], ◌∷◌, ◌++◌}
-use mathlib.Core.Bool.{true, false, and-false}
+use mathlib.Core.Bool.{true}
 use Prim.Native.Nat.{ℕ, ◌+◌, ◌-◌, ◌*◌, ◌^◌, ◌≤◌, ◌<◌}
 use native.Mathlib.Nat.{pow-suc, pow-le-pow_right}
 use native.Mathlib.Numerals.{add-one}
 use lib.ListN.{length, take, get_or}
 use lib.Seq.{take-suc}
 use lib.Dec.{lit<, leb}
-use borrow.Author.Tests.{leb-true, le-leb, lt-leb}
+use borrow.Author.Tests.{leb-true, le-leb}
 use Rattle.ascii.specs.Text.{decimal, digit}
 use Rattle.ascii.proofs.Cases.{both}
 
@@ -30,12 +30,6 @@ ten_le j h = pow-le-pow_right (lit< tt) h
 -- a digit is 48 to 57
 pub digit_range : (b : ℕ) → digit b ≡ true → (48 ≤ b) × (b ≤ 57)
 digit_range b e = let h = both (leb 48 b) (leb b 57) e in (leb-true 48 b h.0, leb-true b 57 h.1)
-
-pub digit_low : (b : ℕ) → b < 48 → digit b ≡ false
-digit_low b h = rw (lt-leb 48 b h)
-
-pub digit_high : (b : ℕ) → 57 < b → digit b ≡ false
-digit_high b h = rw (lt-leb b 57 h) (and-false (leb 48 b))
 
 pub digit_yes : (b : ℕ) → 48 ≤ b → b ≤ 57 → digit b ≡ true
 digit_yes b h l = rw (le-leb 48 b h, le-leb b 57 l)

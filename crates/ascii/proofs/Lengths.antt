@@ -1,13 +1,14 @@
 -- The length of a number as text, and texts that are put one after the other into a buffer.
 -- Assumes nothing.
-use Prim.Native.Nat.{ℕ, zero, suc, ◌+◌, ◌/◌, ◌≤◌, ◌<◌}
+use Prim.Native.Nat.{ℕ, zero, suc, ◌+◌, ◌-◌, ◌/◌, ◌≤◌, ◌<◌}
 use mathlib.Core.Path.{◌≡◌, refl, ap, sym, ◌∙◌}
 use mathlib.Core.List.{List, [], ◌∷◌, ◌++◌, append_assoc}
 use native.Mathlib.Numerals.{add-one}
 use native.Mathlib.Omega.{arith}
 use lib.ListN.{length, take, drop, set, length-append, length-drop}
-use lib.Seq.{take_at, drop_at, drop-drop, length-take-le, set_split, paste, take-length}
+use lib.Seq.{take_at, drop_at, drop-drop, length-take-le, set_split}
 use lib.Dec.{ltb}
+use borrow.Rule.Slice.PartMut.{put_mid}
 use Rattle.ascii.proofs.Cases.{by_test}
 use Rattle.ascii.specs.Number.{decimal_in, decimal_text}
 use Rattle.ascii.specs.Buffer.{put_in}
@@ -75,10 +76,9 @@ put_byte o at x h = set_split o at x h ∙ ap (λ (k : ℕ). take at o ++ (x ∷
 pub put_cons : (o : List ℕ) (at x : ℕ) (t : List ℕ) → at + 1 + length t ≤ length o → put_in (set o at x) (at + 1) t ≡ put_in o at (x ∷ t)
 put_cons o at x t h = ap (λ (l : List ℕ). put_in l (at + 1) t) (put_byte o at x (omega arith)) ∙ put_put o at (x ∷ []) t h
 
--- a text that is pasted byte by byte, all of it
-pub paste_whole : (o : List ℕ) (at : ℕ) (t : List ℕ) (n : ℕ) → n ≡ length t → paste o at t n ≡ put_in o at t
+-- a text in the place of as many bytes of the buffer
+pub put_between : (o : List ℕ) (at n : ℕ) (t s : List ℕ) → n ≡ length t → s ≡ t → put_mid at (at + n - at) o s ≡ put_in o at t
 unfolding put_in
-paste_whole o at t n e =
-    ap (paste o at t) e
-    ∙ ap (λ (l : List ℕ). (take at o ++ l) ++ drop (at + length t) o) (take-length t)
-    ∙ append_assoc (take at o) t (drop (at + length t) o)
+put_between o at n t s l e =
+    rw (drop-drop (at + n - at) at o)
+    (ap (λ (r : List ℕ). take at o ++ (r ++ drop (at + (at + n - at)) o)) e ∙ ap (λ (k : ℕ). take at o ++ (t ++ drop k o)) (omega arith))

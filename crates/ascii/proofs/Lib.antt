@@ -2,6 +2,7 @@ pub mod Cases
 pub mod Scan
 pub mod Front
 pub mod Spaces
+pub mod Library
 pub mod Decimal
 pub mod Parts
 pub mod Same
@@ -9,4 +10,5 @@ pub mod Reading
 pub mod Turns
 pub mod Lengths
 pub mod Chain
+pub mod Printed
 pub mod Back

@@ -72,7 +72,7 @@ module _ (n : ℕ) (s : List ℕ) (i : ℕ) where
 
 -- ---- so many digits at the front of a text
 
-front_take : (p : ℕ → Bool) (s : List ℕ) (n : ℕ) → n ≤ front p s → front p (take n s) ≡ n
+pub front_take : (p : ℕ → Bool) (s : List ℕ) (n : ℕ) → n ≤ front p s → front p (take n s) ≡ n
 unfolding front
 front_take p s zero h = refl
 front_take p [] (suc n) h = absurd (not-suc-le-zero h)
@@ -97,6 +97,12 @@ unfolding number
 digits_any s n some h =
     let l : length (take n s) ≡ n = length-take-le n s (omega (arith, front_le digit s)) in
     rw (l, front_take digit s n h, lt-ltb 0 n (omega arith), eq-eqb n n refl)
+
+-- digits and nothing else are a number, where it is below 2 ^ 64
+pub digits_whole : (s : List ℕ) → (length s ≡ 0 → ⊥) → front digit s ≡ length s
+    → number s ≡ cond (ltb (decimal 0 s) (2 ^ 64)) (Some (decimal 0 s)) None
+unfolding number
+digits_whole s some e = rw (lt-ltb 0 (length s) (omega (arith, some)), eq-eqb (front digit s) (length s) e)
 
 -- so 18 of them are
 pub digits_number : (s : List ℕ) (n : ℕ) → (n ≡ 0 → ⊥) → n ≤ 18 → n ≤ front digit s → number (take n s) ≡ Some (decimal 0 (take n s))

@@ -1,38 +1,20 @@
--- Spaces: all of a list, the front of it, and its end.
+-- Spaces: all of a list, and its end.
 -- Assumes nothing.
-use mathlib.Core.Path.{◌≡◌, refl, sym, ◌∙◌}
+use mathlib.Core.Path.{◌≡◌, refl}
 use mathlib.Core.List.{List, [], ◌∷◌}
 use mathlib.Core.Bool.{true, false}
 use Prim.Native.Nat.{ℕ, zero, suc, ◌≤◌, ◌<◌}
 use native.Mathlib.Nat.{le_of_suc-le-suc, not-suc-le-zero}
 use native.Mathlib.Omega.{arith}
-use lib.ListN.{length, drop, get_or, drop_of_length-le, replicate, take, length-take}
-use lib.Seq.{drop-cons, take-take}
-use lib.Dec.{eqb, eqb-zero-suc, eqb-suc-suc}
-use Rattle.ascii.specs.Text.{front, space, spaces, trim, same}
+use lib.ListN.{length, drop, get_or, replicate, take}
+use Rattle.ascii.specs.Text.{space, spaces, trim, same}
 use Rattle.ascii.proofs.Cases.{either}
 
--- a list has only spaces where they are as many as its bytes
-pub spaces_count : (s : List ℕ) → spaces s ≡ eqb (front space s) (length s)
-unfolding spaces front
-spaces_count [] = refl
-spaces_count (b ∷ bs) =
-    either (space b) (λ e. rw (e, eqb-suc-suc (front space bs) (length bs)) (spaces_count bs)) (λ e. rw (e, eqb-zero-suc (length bs)))
-
--- so are the spaces that END asks after its letters
+-- a list has only spaces where it is as many spaces, as END asks after its letters
 pub spaces_same : (s : List ℕ) → same s (replicate (length s) 32) ≡ spaces s
 unfolding spaces same
 spaces_same [] = refl
 spaces_same (b ∷ bs) = rw (spaces_same bs)
-
-pub spaces_none : (s : List ℕ) (n : ℕ) → length s ≤ n → spaces (drop n s) ≡ true
-unfolding spaces
-spaces_none s n h = rw (drop_of_length-le s h)
-
--- a space before spaces
-pub spaces_more : (s : List ℕ) (i : ℕ) → i < length s → get_or s i 0 ≡ 32 → spaces (drop (suc i) s) ≡ true → spaces (drop i s) ≡ true
-unfolding spaces
-spaces_more s i h e t = rw (drop-cons s i 0 h, e, t)
 
 pub trimmed_none : (s : List ℕ) → spaces s ≡ true → length (trim s) ≡ 0
 unfolding trim
@@ -62,8 +44,3 @@ pub trim_take : (s : List ℕ) → take (length (trim s)) s ≡ trim s
 unfolding trim
 trim_take [] = refl
 trim_take (b ∷ bs) = either (spaces (b ∷ bs)) (λ t. rw t) (λ t. rw (t, trim_take bs))
-
-pub trim_part : (s : List ℕ) (n : ℕ) → take (length (trim (take n s))) s ≡ trim (take n s)
-trim_part s n =
-    let h : length (trim (take n s)) ≤ n = omega (arith, trimmed_le (take n s), length-take n s) in
-    sym (take-take (length (trim (take n s))) n s h) ∙ trim_take (take n s)

@@ -12,77 +12,44 @@ ghost use Rattle.ascii.specs.Text.{front, space, digit, spaces, trim, same};
 pub fn leading_spaces(s: &[u8]) -> usize
     ensures { result ≡ front space s.now }
 {
-    let mut i: usize = 0;
-    while i < s.len() {
-        if s[i] != 32 {
-            return i;
-        }
-        i += 1;
-    }
-    i
+    s.iter().take_while(|b| **b == b' ').count()
 }
 
 // How many digits stand at the front.
 pub fn leading_digits(s: &[u8]) -> usize
     ensures { result ≡ front digit s.now }
 {
-    let mut i: usize = 0;
-    while i < s.len() {
-        if s[i] < 48 {
-            return i;
-        }
-        if 57 < s[i] {
-            return i;
-        }
-        i += 1;
-    }
-    i
+    s.iter().take_while(|b| b.is_ascii_digit()).count()
 }
 
 pub fn all_spaces(s: &[u8]) -> bool
     ensures { result ≡ spaces s.now }
 {
-    leading_spaces(s) == s.len()
+    s.iter().all(|b| *b == b' ')
 }
 
 // The length without trailing spaces.
 pub fn trimmed_len(s: &[u8]) -> usize
     ensures { result ≡ length (trim s.now) }
 {
-    let mut n = s.len();
-    while 0 < n {
-        if s[n - 1] != 32 {
-            return n;
-        }
-        n -= 1;
+    match s.iter().rposition(|b| *b != b' ') {
+        Some(last) => last + 1,
+        None => 0,
     }
-    0
 }
 
-// Whether two runs of bytes are the same.
+// Whether two runs of bytes are the same, in the words of specs/Text, which `==` and `starts_with` do not have.
+#[tactic(auto, using(crate::proofs::Library::same_pointwise))]
 pub fn same_bytes(a: &[u8], b: &[u8]) -> bool
     ensures { result ≡ same a.now b.now }
 {
-    if a.len() != b.len() {
-        return false;
-    }
-    let mut i: usize = 0;
-    while i < a.len() {
-        if a[i] != b[i] {
-            return false;
-        }
-        i += 1;
-    }
-    true
+    a == b
 }
 
 // Whether a text begins with these bytes.
+#[tactic(auto, using(crate::proofs::Library::same_swapped))]
 pub fn begins_with(text: &[u8], start: &[u8]) -> bool
     ensures { result ≡ same (take (length start.now) text.now) start.now }
 {
-    let n = start.len();
-    if text.len() < n {
-        return false;
-    }
-    same_bytes(&text[0..n], start)
+    text.starts_with(start)
 }

@@ -1,6 +1,6 @@
 -- The layout that the entry returns keeps every limit and sum, its data area is long enough, and the header alone decides it.
 -- Assumes nothing.
-use Rattle.std.specs.Prelude.{Option, Some, None, Result, Ok}
+use Rattle.std.specs.Prelude.{Option, Some, None, Result, Ok, Err}
 use mathlib.Core.Path.{◌≡◌, refl, sym, ◌∙◌, ap}
 use mathlib.Core.Bool.{Bool, true, false, cond}
 use mathlib.Core.List.{List}
@@ -11,13 +11,14 @@ use lib.ListN.{length}
 use borrow.Author.Tests.{eq-eqb, le-leb, leb-true}
 use Rattle.ascii.proofs.Cases.{both}
 use Rattle.refusal.specs.declared.Refusal.{Refusal}
-use Rattle.refusal.specs.Refusal.{Outcome, before, outcome_of}
+use Rattle.refusal.specs.Refusal.{Outcome, before}
+use Rattle.refusal.proofs.Decided.{check_of, check_back}
 use Rattle.header.specs.Checks.{checked}
 use Rattle.layout.specs.declared.Column.{Column}
 use Rattle.layout.specs.declared.BinTable.{BinTable}
-use Rattle.layout.specs.Layout.{column_bytes, row_bytes, columns_of, main_size, data_size, columns_ok, layout_ok}
+use Rattle.layout.specs.Layout.{empty_layout, column_bytes, row_bytes, columns_of, main_size, data_size, columns_ok, layout_ok}
 use Rattle.bintable.specs.Checks.{not_negative, size_in, within, text_in, value_at, record_for, size_for, tform_of}
-use Rattle.bintable.specs.Entry.{main_of, theap_check, theap_in, nine, nine_checks, column_checks, columns_from, layout_of, check9, check10, all_checks, accepted, entry_by, entry, layout_in}
+use Rattle.bintable.specs.Entry.{main_of, theap_check, theap_in, nine, nine_checks, column_checks, columns_from, layout_of, check9, check10, all_checks, Entry, accepted, refused, entry_by, entry, entry_of}
 use Rattle.bintable.proofs.Bounds.{refused_not, both_accepted, first_accepted, unless_holds, size_limits}
 use Rattle.bintable.proofs.Filled.{form_count, column_of}
 use Rattle.bintable.proofs.Entered.{nine_sizes, nine_rest, nine_tfields, columns_of_lem, entry_parts}
@@ -99,10 +100,26 @@ module _ (h : List ℕ) where
     unfolding check10
     entry_long e = let p = parts e in rw p.1.1 (leb-true (data_size (layout_of h)) (length a) (passes (leb (data_size (layout_of h)) (length a)) 10 0 p.1.0))
 
--- where the code's entry passed, the entry accepts the layout that it returned: from the two clauses of its contract
-pub parsed_entry : (h a : List ℕ) (check : Result Unit Refusal) (l : BinTable) → outcome_of check ≡ all_checks h a → l ≡ layout_in (entry h a) → check ≡ (Ok tt)
-    → entry h a ≡ accepted l
-parsed_entry h a check l e q p =
-    let o : all_checks h a ≡ O.accepted = sym e ∙ ap outcome_of p in
-    let n : entry h a ≡ accepted (layout_of h) = ap (λ (x : Outcome). entry_by x (layout_of h)) o in
-    n ∙ ap accepted (sym (q ∙ ap layout_in n))
+-- ---- what the code returned
+
+-- where it is a layout, the entry accepts that layout
+pub parsed_entry : (h a : List ℕ) (l : BinTable) → entry_of (Ok l) ≡ entry h a → entry h a ≡ accepted l
+parsed_entry h a l e = sym e
+
+-- the entry decides it
+
+given : Result Unit Refusal → BinTable → Result BinTable Refusal
+given (Ok x) l = Ok l
+given (Err r) l = Err r
+
+returned : Entry → Result BinTable Refusal
+returned (accepted l) = Ok l
+returned (refused n p) = given (check_of (O.refused n p)) empty_layout
+
+returned_back : (x : Result BinTable Refusal) → returned (entry_of x) ≡ x
+unfolding returned given
+returned_back (Ok l) = refl
+returned_back (Err r) = ap (λ (k : Result Unit Refusal). given k empty_layout) (check_back (Err r))
+
+pub entry_decides : (x y : Result BinTable Refusal) → entry_of x ≡ entry_of y → x ≡ y
+entry_decides x y e = sym (returned_back x) ∙ ap returned e ∙ returned_back y

@@ -2,7 +2,8 @@
 ghost use Rattle.std.specs.Prelude.{◌≡◌, IfOk};
 ghost use Rattle.tform.specs.declared.TForm.{TForm};
 ghost use Rattle.refusal.specs.Refusal.{outcome_of};
-ghost use Rattle.bintable.specs.Checks.{is_integer, is_string, not_negative, size_in, within, value_at, check4, check5, check6, check7, check8};
+ghost use Rattle.bintable.specs.Checks.{is_integer, is_string, not_negative, size_in, within, value_at};
+ghost use Rattle.bintable.specs.Checks.{check4, check5, check6, check7, check8};
 
 use card::Value;
 use refusal::Refusal;
@@ -54,14 +55,7 @@ pub fn size_of(header: &[u8], found: Option<usize>) -> u64
 pub fn is_within(value: Option<Value>, low: u64, high: u64) -> bool
     ensures { result ≡ within low high value }
 {
-    if !not_negative(value) {
-        return false;
-    }
-    let n = size(value);
-    if n < low {
-        return false;
-    }
-    n <= high
+    not_negative(value) && (low..=high).contains(&size(value))
 }
 
 pub fn check4(found: Option<usize>, n: usize) -> Result<(), Refusal>
@@ -73,40 +67,32 @@ pub fn check4(found: Option<usize>, n: usize) -> Result<(), Refusal>
     }
 }
 
+// Checks 5, 6 and 7 are one match each: one function that is told the cause by a closure is no shorter.
 pub fn check5(kind: bool, found: Option<usize>) -> Result<(), Refusal>
     ensures { outcome_of result ≡ check5 kind found }
 {
-    let Some(k) = found else {
-        return Ok(());
-    };
-    if kind {
-        return Ok(());
+    match found {
+        Some(record) if !kind => Err(Refusal::UnreadableValue { record }),
+        _ => Ok(()),
     }
-    Err(Refusal::UnreadableValue { record: k })
 }
 
 pub fn check6(right: bool, found: Option<usize>) -> Result<(), Refusal>
     ensures { outcome_of result ≡ check6 right found }
 {
-    let Some(k) = found else {
-        return Ok(());
-    };
-    if right {
-        return Ok(());
+    match found {
+        Some(record) if !right => Err(Refusal::InvalidValue { record }),
+        _ => Ok(()),
     }
-    Err(Refusal::InvalidValue { record: k })
 }
 
 pub fn check7(limit: u64, value: Option<Value>, found: Option<usize>) -> Result<(), Refusal>
     ensures { outcome_of result ≡ check7 limit value found }
 {
-    let Some(k) = found else {
-        return Ok(());
-    };
-    if size(value) <= limit {
-        return Ok(());
+    match found {
+        Some(record) if limit < size(value) => Err(Refusal::AboveLimit { record }),
+        _ => Ok(()),
     }
-    Err(Refusal::AboveLimit { record: k })
 }
 
 // The form that passes.

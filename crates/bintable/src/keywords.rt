@@ -5,12 +5,13 @@ ghost use Rattle.card.specs.declared.Value.{Value};
 ghost use Rattle.ascii.specs.Text.{bytes, same};
 ghost use Rattle.keyword.specs.Names.{index_limit};
 ghost use Rattle.refusal.specs.Refusal.{accepted, outcome_of};
-ghost use Rattle.header.specs.Checks.{record_of, index_by};
+ghost use Rattle.header.specs.Checks.{index_by};
 ghost use Rattle.layout.specs.Layout.{tfields_limit};
-ghost use Rattle.bintable.specs.Checks.{is_integer, is_string, not_negative, within, text_in, check4, check5, check6, first_refusal};
+ghost use Rattle.bintable.specs.Checks.{is_integer, is_string, not_negative, within, text_in, check4, check5};
+ghost use Rattle.bintable.specs.Checks.{check6, first_refusal};
 ghost use Rattle.bintable.specs.Entry.{required, limited, theap_check, nine, nine_checks};
 
-use super::{checks, text};
+use super::{Indexed, checks, text};
 use keyword::INDEX_LIMIT;
 use layout::{NAXIS1_LIMIT, NAXIS2_LIMIT, PCOUNT_LIMIT, TFIELDS_LIMIT};
 use refusal::Refusal;
@@ -76,66 +77,52 @@ fn check_theap(header: &[u8], found: Option<usize>, main: u64, pcount: u64) -> R
     checks::check6(checks::is_within(value, main, main + pcount), found)
 }
 
-// XTENSION, BITPIX and NAXIS.
-#[tactic(auto, using(crate::proofs::Index::at_xtension, crate::proofs::Index::at_bitpix, crate::proofs::Index::at_naxis), unfolding(crate::specs::Checks::first_refusal, crate::specs::Entry::nine))]
-fn check_kind(header: &[u8], first: &[u16]) -> Result<(), Refusal>
-    requires { first.now ≡ index_by (record_of header.now) }
-    ensures { outcome_of result ≡ first_refusal (take 3 (nine header.now)) }
-{
-    check_xtension(header, header::record_of(first, keyword::XTENSION))?;
-    check_fixed(header, header::record_of(first, keyword::BITPIX), 8)?;
-    check_fixed(header, header::record_of(first, keyword::NAXIS), 2)
-}
+impl Indexed<'_> {
+    // XTENSION, BITPIX and NAXIS.
+    #[tactic(auto, using(crate::proofs::Index::at_xtension, crate::proofs::Index::at_bitpix, crate::proofs::Index::at_naxis), unfolding(crate::specs::Checks::first_refusal, crate::specs::Entry::nine))]
+    fn check_kind(&self) -> Result<(), Refusal>
+        ensures { outcome_of result ≡ first_refusal (take 3 (nine self.now.header.now)) }
+    {
+        check_xtension(self.header, self.record(keyword::XTENSION))?;
+        check_fixed(self.header, self.record(keyword::BITPIX), 8)?;
+        check_fixed(self.header, self.record(keyword::NAXIS), 2)
+    }
 
-// NAXIS1, NAXIS2 and PCOUNT.
-#[tactic(auto, using(crate::proofs::Index::at_naxis1, crate::proofs::Index::at_naxis2, crate::proofs::Index::at_pcount), unfolding(crate::specs::Checks::first_refusal, crate::specs::Entry::nine))]
-fn check_sizes(header: &[u8], first: &[u16]) -> Result<(), Refusal>
-    requires { first.now ≡ index_by (record_of header.now) }
-    ensures { outcome_of result ≡ first_refusal (take 3 (drop 3 (nine header.now))) }
-{
-    check_size(
-        header,
-        header::record_of(first, keyword::NAXIS1),
-        NAXIS1_LIMIT,
-    )?;
-    check_size(
-        header,
-        header::record_of(first, keyword::NAXIS2),
-        NAXIS2_LIMIT,
-    )?;
-    check_size(
-        header,
-        header::record_of(first, keyword::PCOUNT),
-        PCOUNT_LIMIT,
-    )
-}
+    // NAXIS1, NAXIS2 and PCOUNT.
+    #[tactic(auto, using(crate::proofs::Index::at_naxis1, crate::proofs::Index::at_naxis2, crate::proofs::Index::at_pcount), unfolding(crate::specs::Checks::first_refusal, crate::specs::Entry::nine))]
+    fn check_sizes(&self) -> Result<(), Refusal>
+        ensures { outcome_of result ≡ first_refusal (take 3 (drop 3 (nine self.now.header.now))) }
+    {
+        check_size(self.header, self.record(keyword::NAXIS1), NAXIS1_LIMIT)?;
+        check_size(self.header, self.record(keyword::NAXIS2), NAXIS2_LIMIT)?;
+        check_size(self.header, self.record(keyword::PCOUNT), PCOUNT_LIMIT)
+    }
 
-// GCOUNT, TFIELDS and THEAP, whose range needs sizes within their limits.
-#[tactic(auto, using(crate::proofs::Index::at_gcount, crate::proofs::Index::at_tfields, crate::proofs::Index::at_theap, crate::proofs::Index::at_naxis1, crate::proofs::Index::at_naxis2, crate::proofs::Index::at_pcount), unfolding(crate::specs::Checks::first_refusal, crate::specs::Entry::nine))]
-fn check_rest(header: &[u8], first: &[u16]) -> Result<(), Refusal>
-    requires { (first.now ≡ index_by (record_of header.now))
-        × (first_refusal (take 3 (drop 3 (nine header.now))) ≡ accepted) }
-    ensures { outcome_of result ≡ first_refusal (drop 6 (nine header.now)) }
-{
-    let naxis1 = checks::size_of(header, header::record_of(first, keyword::NAXIS1));
-    let naxis2 = checks::size_of(header, header::record_of(first, keyword::NAXIS2));
-    let pcount = checks::size_of(header, header::record_of(first, keyword::PCOUNT));
-    check_fixed(header, header::record_of(first, keyword::GCOUNT), 1)?;
-    check_tfields(header, header::record_of(first, keyword::TFIELDS))?;
-    check_theap(
-        header,
-        header::record_of(first, keyword::THEAP),
-        naxis1 * naxis2,
-        pcount,
-    )
-}
+    // GCOUNT, TFIELDS and THEAP, whose range needs sizes within their limits.
+    #[tactic(auto, using(crate::proofs::Index::at_gcount, crate::proofs::Index::at_tfields, crate::proofs::Index::at_theap, crate::proofs::Index::at_naxis1, crate::proofs::Index::at_naxis2, crate::proofs::Index::at_pcount), unfolding(crate::specs::Checks::first_refusal, crate::specs::Entry::nine))]
+    fn check_rest(&self) -> Result<(), Refusal>
+        requires { first_refusal (take 3 (drop 3 (nine self.now.header.now))) ≡ accepted }
+        ensures { outcome_of result ≡ first_refusal (drop 6 (nine self.now.header.now)) }
+    {
+        let naxis1 = checks::size_of(self.header, self.record(keyword::NAXIS1));
+        let naxis2 = checks::size_of(self.header, self.record(keyword::NAXIS2));
+        let pcount = checks::size_of(self.header, self.record(keyword::PCOUNT));
+        check_fixed(self.header, self.record(keyword::GCOUNT), 1)?;
+        check_tfields(self.header, self.record(keyword::TFIELDS))?;
+        check_theap(
+            self.header,
+            self.record(keyword::THEAP),
+            naxis1 * naxis2,
+            pcount,
+        )
+    }
 
-#[tactic(auto, using(crate::proofs::Nine::nine_parts))]
-pub fn check_nine(header: &[u8], first: &[u16]) -> Result<(), Refusal>
-    requires { first.now ≡ index_by (record_of header.now) }
-    ensures { outcome_of result ≡ nine_checks header.now }
-{
-    check_kind(header, first)?;
-    check_sizes(header, first)?;
-    check_rest(header, first)
+    #[tactic(auto, using(crate::proofs::Nine::nine_parts))]
+    pub fn check_nine(&self) -> Result<(), Refusal>
+        ensures { outcome_of result ≡ nine_checks self.now.header.now }
+    {
+        self.check_kind()?;
+        self.check_sizes()?;
+        self.check_rest()
+    }
 }

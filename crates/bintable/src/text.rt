@@ -8,14 +8,8 @@ use card::Value;
 pub fn stretch(header: &[u8], start: usize, len: usize) -> &[u8]
     ensures { result.now ≡ take len (drop start header.now) }
 {
-    if header.len() < start {
-        return &header[0..0];
-    }
-    let rest = &header[start..];
-    if rest.len() < len {
-        return rest;
-    }
-    &rest[..len]
+    let rest = header.get(start..).unwrap_or(&[]);
+    rest.get(..len).unwrap_or(rest)
 }
 
 // The bytes of a string.
@@ -23,7 +17,7 @@ pub fn text_of(header: &[u8], value: Option<Value>) -> &[u8]
     ensures { result.now ≡ text_in header.now value }
 {
     let Some(Value::String { start, len }) = value else {
-        return &header[0..0];
+        return &[];
     };
     stretch(header, start, len)
 }

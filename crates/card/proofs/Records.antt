@@ -1,51 +1,38 @@
--- The tests of a record's bytes, and the bytes of a record that is not there.
+-- The tests of a record's bytes, and a record that is not there, which reads as a blank one.
 -- Assumes nothing.
-use mathlib.Core.Path.{◌≡◌, ◌∙◌}
-use mathlib.Core.List.{List, [], ◌∷◌}
-use mathlib.Core.Bool.{true, false, cond, and-true}
-use Prim.Native.Nat.{ℕ, ◌*◌, ◌/◌, ◌≤◌, ◌<◌}
-use native.Mathlib.Omega.{arith}
-use lib.ListN.{length, take, drop, get_or, replicate, length-take, length-drop}
-use lib.Seq.{drop-cons}
-use lib.Dec.{ltb, eqb}
-use borrow.Author.Tests.{ltb-true, lt-ltb}
+use Rattle.std.proofs.Common.{◌≡◌, ℕ, ◌+◌, ◌-◌, ◌*◌, ◌/◌, ◌<◌, List, [], ◌∷◌, Bool, true, false, ◌&&◌, cond, length, take, drop, replicate, Bor, Some, None, refl, ap, ◌∙◌, arith}
+use Rattle.std.specs.Prelude.{Option, MatchOption}
+use Rattle.std.specs.Option.{option_copied}
+use Rattle.std.specs.Array.{IsFirstChunk}
+use Rattle.std.specs.Cmp.{nat_eq_equiv}
+use Rattle.std.specs.Cmp.Lexicographic.{pointwise}
+use lib.Dec.{eqb, ltb}
+use borrow.Author.Tests.{lt-ltb, le-ltb}
 use Rattle.ascii.specs.Text.{bytes, same, spaces, trim}
 use Rattle.card.specs.Record.{card_at, is_end, has_value, name_of}
 use Rattle.ascii.proofs.Cases.{either}
-use Rattle.ascii.proofs.Same.{same_length, same_differ, same_next}
+use Rattle.ascii.proofs.Parts.{part_from}
 use Rattle.ascii.proofs.Spaces.{spaces_same}
 
+-- END by its letters and the spaces after them
+pub end_parts : (s : List ℕ) → length s ≡ 80 → is_end s ≡ (pointwise eqb (69 ∷ 78 ∷ 68 ∷ []) (take 3 s) && spaces (drop 3 s))
+unfolding is_end bytes same
+end_parts [] l = absurd (omega arith)
+end_parts (a ∷ []) l = absurd (omega arith)
+end_parts (a ∷ b ∷ []) l = absurd (omega arith)
+end_parts (a ∷ b ∷ c ∷ r) l =
+    let left : length r ≡ 77 = omega arith in
+    let rest : same r (replicate 77 32) ≡ spaces r = rw left at (spaces_same r) in
+    rw (nat_eq_equiv.symm a 69, nat_eq_equiv.symm b 78, nat_eq_equiv.symm c 68, rest)
+    (letters (eqb 69 a) (eqb 78 b) (eqb 68 c) (spaces r))
+  where
+    letters : (p q t u : Bool) → (p && (q && (t && u))) ≡ ((p && (q && (t && true))) && u)
+    letters true true true u = refl
+    letters true true false u = refl
+    letters true false t u = refl
+    letters false q t u = refl
+
 module _ (s : List ℕ) where
-  pub end_length : (length s ≡ 80 → ⊥) → is_end s ≡ false
-  unfolding is_end bytes
-  end_length h = same_length s _ h
-
-  pub end_differs : (i : ℕ) → (get_or s i 0 ≡ get_or (69 ∷ 78 ∷ 68 ∷ replicate 77 32) i 0 → ⊥) → is_end s ≡ false
-  unfolding is_end bytes
-  end_differs i h = same_differ s _ i h
-
-  pub end_letters : length s ≡ 80 → get_or s 0 0 ≡ 69 → get_or s 1 0 ≡ 78 → get_or s 2 0 ≡ 68 → is_end s ≡ spaces (drop 3 s)
-  unfolding is_end bytes
-  end_letters l e n d =
-      let left : length (drop 3 s) ≡ 77 = simp length-drop (omega arith) in
-      same_next s 0 69 _ (omega arith) e ∙ same_next s 1 78 _ (omega arith) n ∙ same_next s 2 68 _ (omega arith) d ∙ (rw left at (spaces_same (drop 3 s)))
-
-  pub value_short : length s < 10 → has_value s ≡ false
-  unfolding has_value bytes
-  value_short h = same_length (take 2 (drop 8 s)) _ (simp (length-take, length-drop) (omega arith))
-
-  module _ (h : 10 ≤ length s) where
-    indicator : take 2 (drop 8 s) ≡ get_or s 8 0 ∷ get_or s 9 0 ∷ []
-    indicator = rw (drop-cons s 8 0 (omega arith), drop-cons s 9 0 (omega arith))
-
-    pub value_differs : (get_or s 8 0 ≡ 61 → ⊥) → has_value s ≡ false
-    unfolding has_value bytes
-    value_differs e = rw indicator (same_differ _ _ 0 e)
-
-    pub value_equals : get_or s 8 0 ≡ 61 → has_value s ≡ eqb (get_or s 9 0) 32
-    unfolding has_value bytes same
-    value_equals e = rw (indicator, e) (and-true (eqb (get_or s 9 0) 32))
-
   pub name_none : has_value s ≡ false → name_of s ≡ []
   unfolding name_of
   name_none e = rw e
@@ -56,33 +43,46 @@ module _ (s : List ℕ) where
 
 module _ (h : List ℕ) (k : ℕ) where
   -- the record's bytes, or none past the last whole record
-  abbrev pub bytes_of : List ℕ
-  bytes_of = cond (ltb k (length h / 80)) (take 80 (drop (k * 80) h)) []
+  abbrev pub record_or_none : Option (List ℕ)
+  record_or_none = cond (ltb k (length h / 80)) (Some (card_at h k)) None
 
-  -- what holds alike of no bytes and of a blank record
-  pub card_or_none : {A : Type 0} (f : List ℕ → A) → f [] ≡ f (replicate 80 32) → f bytes_of ≡ f (card_at h k)
+  -- the first 80 bytes of what stands from the record on
+  pub record_cut : (part : List ℕ) (r : Option (Bor (List ℕ))) → part ≡ take (length h - k * 80) (drop (k * 80) h)
+      → length part + k * 80 ≡ length h → MatchOption r (length part < 80) (λ y. IsFirstChunk part y.now 80)
+      → option_copied r ≡ record_or_none
   unfolding card_at
-  card_or_none f e = either (ltb k (length h / 80)) (λ t. rw t) (λ t. rw t e)
+  record_cut part None e l m = rw (le-ltb k (length h / 80) (omega arith))
+  record_cut part (Some y) e l m =
+      rw (lt-ltb k (length h / 80) (omega (arith, m.enough, l))) (ap Some (m.same ∙ ap (take 80) (e ∙ part_from h (k * 80))))
 
-  past : length bytes_of < 80 → ltb k (length h / 80) ≡ false
-  past l =
-      either (ltb k (length h / 80))
-      (λ t. absurd (let b = ltb-true k (length h / 80) t in let m = simp (length-take, length-drop) at (rw t at l) in omega arith))
-      (λ t. t)
+  module _ (missing : None ≡ record_or_none) where
+    over : ltb k (length h / 80) ≡ false
+    over =
+        either (ltb k (length h / 80))
+        (λ t. absurd (let y : None ≡ Some (card_at h k) = rw t at missing in let z : ◌≡◌ {A = ℕ} 0 1 = cc in omega arith))
+        (λ t. t)
 
-  pub card_none : length bytes_of < 80 → bytes_of ≡ []
-  card_none l = rw (past l)
+    blank : card_at h k ≡ replicate 80 32
+    unfolding card_at
+    blank = rw over
 
-  pub card_missing : length bytes_of < 80 → card_at h k ≡ replicate 80 32
-  unfolding card_at
-  card_missing l = rw (past l)
+    pub no_end : is_end (card_at h k) ≡ false
+    unfolding is_end bytes same
+    no_end = rw blank
 
-  pub card_below : 80 ≤ length bytes_of → k < length h / 80
-  card_below l = either (ltb k (length h / 80)) (λ t. ltb-true k (length h / 80) t) (λ t. absurd (let m = rw t at l in omega arith))
+    pub no_value : has_value (card_at h k) ≡ false
+    unfolding has_value bytes same
+    no_value = rw blank
 
-  pub card_there : 80 ≤ length bytes_of → bytes_of ≡ card_at h k
-  unfolding card_at
-  card_there l = rw (lt-ltb k (length h / 80) (card_below l))
+    pub no_name : name_of (card_at h k) ≡ []
+    unfolding name_of
+    no_name = rw no_value
 
-  pub card_length : length bytes_of ≤ 80
-  card_length = either (ltb k (length h / 80)) (λ t. rw t (simp length-take (omega arith))) (λ t. rw t (omega arith))
+  module _ (r : List ℕ) (there : Some r ≡ record_or_none) where
+    below : ltb k (length h / 80) ≡ true
+    below =
+        either (ltb k (length h / 80)) (λ t. t)
+        (λ t. absurd (let y : Some r ≡ None = rw t at there in let z : ◌≡◌ {A = ℕ} 0 1 = cc in omega arith))
+
+    pub record_is : r ≡ card_at h k
+    record_is = let y : Some r ≡ Some (card_at h k) = rw below at there in cc

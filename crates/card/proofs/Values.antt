@@ -1,87 +1,96 @@
 -- The cases of a value, one law for each way that the definitions go.
 -- Assumes nothing.
-use Rattle.std.specs.Prelude.{Option, Some, None}
-use mathlib.Core.Path.{◌≡◌, refl}
-use mathlib.Core.List.{List, [], ◌∷◌}
+use Rattle.std.specs.Prelude.{Some, None}
+use mathlib.Core.Path.{◌≡◌, sym, ap, ◌∙◌}
+use mathlib.Core.List.{List}
 use mathlib.Core.Bool.{Bool, true, false, and-false}
-use Prim.Native.Nat.{ℕ, ◌+◌, ◌*◌, ◌≤◌, ◌<◌}
+use Prim.Native.Nat.{ℕ, ◌+◌, ◌-◌, ◌*◌, ◌^◌, ◌≤◌, ◌<◌}
 use native.Mathlib.Omega.{arith}
-use lib.ListN.{length, take, drop, get_or}
-use lib.Dec.{ltb, leb}
-use borrow.Author.Tests.{lt-ltb, le-ltb, le-leb, lt-leb, ne_eqb}
+use lib.ListN.{length, take, drop}
+use lib.Dec.{eqb, ltb, leb}
+use borrow.Author.Tests.{lt-ltb, le-leb, lt-leb, eqb-true, eqb-false}
+use Rattle.ascii.specs.Number.{number}
+use Rattle.ascii.proofs.Cases.{either}
+use Rattle.ascii.proofs.Decimal.{ten_le}
+use Rattle.ascii.proofs.Parts.{part_from}
+use Rattle.ascii.proofs.Reading.{decimal_below, digits_number}
 use Rattle.card.specs.declared.Value.TheVariants.{Integer, String}
 use Rattle.ascii.specs.Text.{front, digit, decimal, trim}
 use Rattle.card.specs.Ends.{follows, closing}
-use Rattle.card.specs.Value.{signed, digits_value, integer_value, string_value, value_from, field_value, value_of}
+use Rattle.card.proofs.Closing.{closing_place}
+use Rattle.card.specs.Value.{signed, digits_value, string_value, field_value, value_of}
 use Rattle.card.specs.Record.{card_at, has_value}
 
-empty : (s : List ℕ) → length s ≡ 0 → s ≡ []
-empty [] e = refl
-empty (x ∷ xs) e = absurd (omega arith)
+-- what is read of n digits, 18 at most
+module _ (s : List ℕ) (n : ℕ) (e : n ≡ front digit s) (few : n ≤ 18) where
+  digits_read : (n ≡ 0 → ⊥) → number (take n s) ≡ Some (decimal 0 (take n s))
+  digits_read some = digits_number s n some few (omega arith)
 
-module _ (minus : Bool) (s : List ℕ) where
-  pub no_digit : front digit s ≡ 0 → digits_value minus s ≡ None
-  unfolding digits_value
-  no_digit e = rw e
+  nothing : n ≡ 0 → number (take n s) ≡ None
+  unfolding number
+  nothing z = rw z
 
-  pub digits_over : 18 < front digit s → digits_value minus s ≡ None
-  unfolding digits_value
-  digits_over h = rw (lt-leb (front digit s) 18 h, and-false (ltb 0 (front digit s)))
+  -- a number that is read is that of the digits, of which there is one
+  pub record Read (v : ℕ) : Type 0 where
+    pub some : 0 < n
+    pub is : v ≡ decimal 0 (take (front digit s) s)
+    pub small : v < 10 ^ 18
 
-  pub digits_before : follows (drop (front digit s) s) ≡ false → digits_value minus s ≡ None
-  unfolding digits_value
-  digits_before e = rw (e, and-false (leb (front digit s) 18), and-false (ltb 0 (front digit s)))
+  pub read : (v : ℕ) → Some v ≡ number (take n s) → Read v
+  read v r =
+      let some : n ≡ 0 → ⊥ = λ z. let y : Some v ≡ None = r ∙ nothing z in let w : ◌≡◌ {A = ℕ} 0 1 = cc in omega arith in
+      let y : Some v ≡ Some (decimal 0 (take n s)) = r ∙ digits_read some in
+      let is : v ≡ decimal 0 (take n s) = cc in
+      record {
+        some = omega (arith, some);
+        is = is ∙ ap (λ (k : ℕ). decimal 0 (take k s)) e;
+        small = omega (arith, is, decimal_below s n (omega arith), ten_le {i = n} 18 few);
+      }
 
-  pub digits_say : (front digit s ≡ 0 → ⊥) → front digit s ≤ 18 → follows (drop (front digit s) s) ≡ true
-      → digits_value minus s ≡ Some (Integer (signed minus (decimal 0 (take (front digit s) s))))
-  unfolding digits_value
-  digits_say p h e = rw (e, le-leb (front digit s) 18 h, lt-ltb 0 (front digit s) (omega arith))
+  module _ (minus : Bool) where
+    pub unread : None ≡ number (take n s) → digits_value minus s ≡ None
+    unfolding digits_value
+    unread r =
+        either (eqb n 0)
+        (λ t. let z : front digit s ≡ 0 = omega (arith, eqb-true n 0 t, e) in rw z)
+        (λ t. absurd (let y : None ≡ Some (decimal 0 (take n s)) = r ∙ digits_read (λ z. eqb-false n 0 t z) in let w : ◌≡◌ {A = ℕ} 0 1 = cc in omega arith))
 
-pub integer_none : (s : List ℕ) → length s ≡ 0 → integer_value s ≡ None
-unfolding integer_value
-integer_none s e = rw (empty s e)
+    pub digits_before : follows (drop n s) ≡ false → digits_value minus s ≡ None
+    unfolding digits_value
+    digits_before f = rw (← e, f, and-false (leb n 18), and-false (ltb 0 n))
 
-pub integer_minus : (s : List ℕ) → get_or s 0 0 ≡ 45 → integer_value s ≡ digits_value true (drop 1 s)
-unfolding integer_value
-integer_minus [] e = absurd (omega arith)
-integer_minus (b ∷ bs) e = rw e
+    pub digits_say : follows (drop n s) ≡ true → (v : ℕ) → Read v → Some (Integer (signed minus v)) ≡ digits_value minus s
+    unfolding digits_value
+    digits_say f v r =
+        rw (r.is, ← e, f, le-leb n 18 few, lt-ltb 0 n r.some)
 
-pub integer_plus : (s : List ℕ) → get_or s 0 0 ≡ 43 → integer_value s ≡ digits_value false (drop 1 s)
-unfolding integer_value
-integer_plus [] e = absurd (omega arith)
-integer_plus (b ∷ bs) e = rw e
-
-pub integer_bare : (s : List ℕ) → (length s ≡ 0 → ⊥) → (get_or s 0 0 ≡ 45 → ⊥) → (get_or s 0 0 ≡ 43 → ⊥) → integer_value s ≡ digits_value false s
-unfolding integer_value
-integer_bare [] n p q = absurd (n refl)
-integer_bare (b ∷ bs) n p q = rw (ne_eqb b 45 p, ne_eqb b 43 q)
+pub digits_over : (minus : Bool) (s : List ℕ) → 18 < front digit s → digits_value minus s ≡ None
+unfolding digits_value
+digits_over minus s h = rw (lt-leb (front digit s) 18 h, and-false (ltb 0 (front digit s)))
 
 module _ (s : List ℕ) (start : ℕ) where
-  pub string_open : closing s ≡ length s → string_value start s ≡ None
+  pub string_open : None ≡ closing_place s → string_value start s ≡ None
   unfolding string_value
-  string_open e = rw (le-ltb (closing s) (length s) (omega arith))
+  string_open e =
+      either (ltb (closing s) (length s))
+      (λ t. absurd (let y : None ≡ Some (closing s) = rw t at e in let w : ◌≡◌ {A = ℕ} 0 1 = cc in omega arith))
+      (λ t. rw t)
 
-  pub string_before : follows (drop (closing s + 1) s) ≡ false → string_value start s ≡ None
-  unfolding string_value
-  string_before e = rw (e, and-false (ltb (closing s) (length s)))
+  module _ (n : ℕ) (e : Some n ≡ closing_place s) where
+    closes : (ltb (closing s) (length s) ≡ true) × (closing s ≡ n)
+    closes =
+        either (ltb (closing s) (length s))
+        (λ t. let y : Some n ≡ Some (closing s) = rw t at e in (t, cc))
+        (λ t. absurd (let y : Some n ≡ None = rw t at e in let w : ◌≡◌ {A = ℕ} 0 1 = cc in omega arith))
 
-  pub string_says : closing s < length s → follows (drop (closing s + 1) s) ≡ true → string_value start s ≡ Some (String start (length (trim (take (closing s) s))))
-  unfolding string_value
-  string_says h e = rw (lt-ltb (closing s) (length s) h, e)
+    pub string_before : follows (take (length s - (n + 1)) (drop (n + 1) s)) ≡ false → string_value start s ≡ None
+    unfolding string_value
+    string_before f = rw (closes.0, closes.1, ap follows (sym (part_from s (n + 1))) ∙ f)
 
-pub value_none : (s : List ℕ) (start : ℕ) → length s ≡ 0 → value_from start s ≡ None
-unfolding value_from
-value_none s start e = rw (empty s e)
-
-pub value_string : (s : List ℕ) (start : ℕ) → get_or s 0 0 ≡ 39 → value_from start s ≡ string_value (start + 1) (drop 1 s)
-unfolding value_from
-value_string [] start e = absurd (omega arith)
-value_string (b ∷ bs) start e = rw e
-
-pub value_integer : (s : List ℕ) (start : ℕ) → (get_or s 0 0 ≡ 39 → ⊥) → value_from start s ≡ integer_value s
-unfolding value_from integer_value
-value_integer [] start p = refl
-value_integer (b ∷ bs) start p = rw (ne_eqb b 39 p)
+    pub string_says : follows (take (length s - (n + 1)) (drop (n + 1) s)) ≡ true
+        → string_value start s ≡ Some (String start (length (trim (take n s))))
+    unfolding string_value
+    string_says f = rw (closes.0, closes.1, ap follows (sym (part_from s (n + 1))) ∙ f)
 
 module _ (h : List ℕ) (k : ℕ) where
   pub value_unreadable : has_value (card_at h k) ≡ false → value_of h k ≡ None

@@ -5,76 +5,68 @@ ghost use Rattle.card.specs.Value.{signed, digits_value, integer_value, string_v
 
 use super::{Value, text};
 
+// So many digits fit an `i64`.
+const MOST_DIGITS: usize = 18;
+
 fn signed_value(n: u64, minus: bool) -> Value
     requires { n < 10 ^ 18 }
     ensures { result ≡ Integer (signed minus n) }
 {
+    let number = n as i64;
     if minus {
-        return Value::Integer(0 - n as i64);
+        return Value::Integer(-number);
     }
-    Value::Integer(n as i64)
+    Value::Integer(number)
 }
 
 fn digits_value(s: &[u8], minus: bool) -> Option<Value>
     ensures { result ≡ digits_value minus s.now }
 {
     let n = ascii::leading_digits(s);
-    if n == 0 {
+    if n > MOST_DIGITS {
         return None;
     }
-    if 18 < n {
+    let (digits, rest) = s.split_at(n);
+    if !text::may_follow(rest) {
         return None;
     }
-    if !text::may_follow(&s[n..]) {
-        return None;
-    }
-    let Some(number) = ascii::digits::parse_number(&s[..n]) else {
-        return None;
-    };
+    let number = ascii::digits::parse_number(digits)?;
     Some(signed_value(number as u64, minus))
 }
 
+#[tactic(auto, unfolding(crate::specs::Value::integer_value))]
 fn integer_value(s: &[u8]) -> Option<Value>
     ensures { result ≡ integer_value s.now }
 {
-    if s.len() == 0 {
-        return None;
+    let (first, rest) = s.split_first()?;
+    match *first {
+        b'-' => digits_value(rest, true),
+        b'+' => digits_value(rest, false),
+        _ => digits_value(s, false),
     }
-    if s[0] == 45 {
-        return digits_value(&s[1..], true);
-    }
-    if s[0] == 43 {
-        return digits_value(&s[1..], false);
-    }
-    digits_value(s, false)
 }
 
 fn string_value(s: &[u8], start: usize) -> Option<Value>
     ensures { result ≡ string_value start s.now }
 {
-    let n = text::closing_quote(s);
-    if n == s.len() {
+    let n = text::closing_quote(s)?;
+    if !text::may_follow(&s[n + 1..]) {
         return None;
     }
-    let after = n + 1;
-    if !text::may_follow(&s[after..]) {
-        return None;
-    }
-    let len = ascii::trimmed_len(&s[0..n]);
+    let len = ascii::trimmed_len(&s[..n]);
     Some(Value::String { start, len })
 }
 
+#[tactic(auto, unfolding(crate::specs::Value::value_from))]
 fn value_from(s: &[u8], start: usize) -> Option<Value>
     requires { start + length s.now < 2 ^ 64 }
     ensures { result ≡ value_from start s.now }
 {
-    if s.len() == 0 {
-        return None;
+    let (first, rest) = s.split_first()?;
+    match *first {
+        b'\'' => string_value(rest, start + 1),
+        _ => integer_value(s),
     }
-    if s[0] == 39 {
-        return string_value(&s[1..], start + 1);
-    }
-    integer_value(s)
 }
 
 pub fn field_value(f: &[u8], start: usize) -> Option<Value>

@@ -7,11 +7,17 @@
 mod field;
 mod text;
 
-ghost use Rattle.std.specs.Prelude.{◌≡◌, [], cond, ◌*◌, ◌/◌, ltb, length, take, drop};
+ghost use Rattle.std.specs.Prelude.{◌≡◌, cond, ◌/◌, ltb, length};
+ghost use Rattle.std.specs.Option.{option_copied};
 ghost use Rattle.card.specs.Record.{card_at, is_end, has_value, name_of};
 ghost use Rattle.card.specs.Value.{value_of};
 
-// What a record's value field says. A string is the stretch of the header between its quotes, with
+use text::{FIELD_START, NAME_BYTES, Record};
+
+// How long a record is.
+pub const RECORD_BYTES: usize = 80;
+
+// What a record's value field says. A string is the stretch of the header between its quotes, by its place, with
 // trailing spaces off and doubled quotes still doubled. An unreadable value is none.
 #[derive(Clone, Copy)]
 pub enum Value {
@@ -19,58 +25,53 @@ pub enum Value {
     String { start: usize, len: usize },
 }
 
-// The 80 bytes of a record, or none past the last whole record.
-fn card_buf(header: &[u8], number: usize) -> &[u8]
-    ensures { result.now ≡ cond (ltb number (length header.now / 80)) (take 80 (drop (number * 80) header.now)) [] }
+// The bytes of a record, or none past the last whole record.
+fn record_at(header: &[u8], number: usize) -> Option<&Record>
+    ensures { option_copied result
+        ≡ cond (ltb number (length header.now / 80)) (Some (card_at header.now number)) None }
 {
-    if number < header.len() / 80 {
-        let start = number * 80;
-        let end = start + 80;
-        return &header[start..end];
-    }
-    &header[0..0]
+    let start = number.checked_mul(RECORD_BYTES)?;
+    header.get(start..)?.first_chunk()
 }
 
 // Whether the record is END.
+#[tactic(auto, using(crate::proofs::Records::no_end))]
 pub fn is_end(header: &[u8], number: usize) -> bool
     ensures { result ≡ is_end (card_at header.now number) }
 {
-    text::end_card(card_buf(header, number))
+    record_at(header, number).is_some_and(text::end_card)
 }
 
 // Whether the record holds a value.
+#[tactic(auto, using(crate::proofs::Records::no_value))]
 pub fn has_value(header: &[u8], number: usize) -> bool
     ensures { result ≡ has_value (card_at header.now number) }
 {
-    text::value_indicator(card_buf(header, number))
+    record_at(header, number).is_some_and(text::value_indicator)
 }
 
 // The record's name, a part of the header; empty for a record that holds no value.
 pub fn name(header: &[u8], number: usize) -> &[u8]
     ensures { result.now ≡ name_of (card_at header.now number) }
 {
-    let card = card_buf(header, number);
-    if card.len() < 80 {
-        return card;
-    }
+    let Some(card) = record_at(header, number) else {
+        return &[];
+    };
     if !text::value_indicator(card) {
-        return &card[0..0];
+        return &[];
     }
-    let len = ascii::trimmed_len(&card[0..8]);
-    &card[0..len]
+    let name = &card[..NAME_BYTES];
+    &name[..ascii::trimmed_len(name)]
 }
 
 // The record's value.
 pub fn parse_value(header: &[u8], number: usize) -> Option<Value>
     ensures { result ≡ value_of header.now number }
 {
-    let card = card_buf(header, number);
-    if card.len() < 80 {
-        return None;
-    }
+    let card = record_at(header, number)?;
     if !text::value_indicator(card) {
         return None;
     }
-    let start = number * 80 + 10;
-    field::field_value(&card[10..], start)
+    let start = number * RECORD_BYTES + FIELD_START;
+    field::field_value(&card[FIELD_START..], start)
 }

@@ -1,76 +1,56 @@
-// Where a string ends, what may come after a value, and the records that are END or hold a value. All answer on any
-// bytes.
-ghost use Rattle.std.specs.Prelude.{◌≡◌, ◌+◌, eqb, get_or};
+// Where a string ends, what may come after a value, and the records that are END or hold a value.
+ghost use Rattle.std.specs.Prelude.{◌≡◌, ◌+◌, cond, ltb, length};
 ghost use Rattle.card.specs.Ends.{follows, closing};
 ghost use Rattle.card.specs.Record.{is_end, has_value};
 
+use super::RECORD_BYTES;
+
+// The bytes of a record: its name, the value indicator, and its value field.
+pub type Record = [u8; RECORD_BYTES];
+
+pub const NAME_BYTES: usize = 8;
+
+pub const FIELD_START: usize = 10;
+
 // Whether these bytes may come after a value.
+#[tactic(auto, using(crate::proofs::Closing::follows_at, crate::proofs::Closing::follows_none))]
 pub fn may_follow(s: &[u8]) -> bool
     ensures { result ≡ follows s.now }
 {
-    let n = ascii::leading_spaces(s);
-    if n == s.len() {
-        return true;
+    match s.get(ascii::leading_spaces(s)) {
+        Some(after) => *after == b'/',
+        None => true,
     }
-    s[n] == 47
 }
 
-// Whether a quote stands at `at`.
-fn is_quote(s: &[u8], at: usize) -> bool
-    ensures { result ≡ eqb (get_or s.now at 0) 39 }
+// Where the quote stands that closes a string. Two quotes in a row stand for one.
+pub fn closing_quote(s: &[u8]) -> Option<usize>
+    ensures { result ≡ cond (ltb (closing s.now) (length s.now)) (Some (closing s.now)) None }
 {
-    if at < s.len() {
-        return s[at] == 39;
-    }
-    false
-}
-
-// Where the quote stands that closes a string; the length if there is none.
-pub fn closing_quote(s: &[u8]) -> usize
-    ensures { result ≡ closing s.now }
-{
-    let mut i: usize = 0;
-    while i < s.len() {
-        if s[i] != 39 {
-            i += 1;
+    let mut rest = s;
+    loop {
+        let (first, after) = rest.split_first()?;
+        if *first != b'\'' {
+            rest = after;
             continue;
         }
-        if !is_quote(s, i + 1) {
-            return i;
+        match after.strip_prefix(b"'") {
+            Some(after) => rest = after,
+            None => return Some(s.len() - rest.len()),
         }
-        i += 2;
     }
-    i
 }
 
 // Whether a record's bytes are END.
-pub fn end_card(s: &[u8]) -> bool
+pub fn end_card(s: &Record) -> bool
     ensures { result ≡ is_end s.now }
 {
-    if s.len() != 80 {
-        return false;
-    }
-    if s[0] != 69 {
-        return false;
-    }
-    if s[1] != 78 {
-        return false;
-    }
-    if s[2] != 68 {
-        return false;
-    }
-    ascii::all_spaces(&s[3..])
+    s.starts_with(b"END") && ascii::all_spaces(&s[3..])
 }
 
 // Whether a record's bytes 9 and 10 are `= `.
-pub fn value_indicator(s: &[u8]) -> bool
+pub fn value_indicator(s: &Record) -> bool
     ensures { result ≡ has_value s.now }
 {
-    if s.len() < 10 {
-        return false;
-    }
-    if s[8] != 61 {
-        return false;
-    }
-    s[9] == 32
+    s[NAME_BYTES..].starts_with(b"= ")
 }

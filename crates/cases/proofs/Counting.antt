@@ -1,6 +1,7 @@
 -- The cases of a file counted one by one.
 -- Assumes nothing.
-use Prim.Native.Nat.{ℕ, zero, suc, ◌+◌, ◌-◌, ◌≤◌}
+use Rattle.std.specs.Prelude.{Option, Some, None}
+use Prim.Native.Nat.{ℕ, zero, suc, ◌+◌, ◌-◌, ◌≤◌, ◌<◌}
 use mathlib.Core.Path.{◌≡◌, refl, sym}
 use mathlib.Core.Bool.{Bool, true, false}
 use mathlib.Core.List.{List}
@@ -9,28 +10,28 @@ use lib.Dec.{leb}
 use lib.ListN.{length, drop, length-drop}
 use lib.Seq.{drop-drop}
 use borrow.Author.Tests.{leb-true, lt-leb}
-use Rattle.ascii.proofs.Cases.{either}
+use Rattle.ascii.proofs.Cases.{by_test, either}
 use Rattle.cases.specs.declared.count.Tally.{Tally}
-use Rattle.cases.specs.declared.count.Case.TheVariants.{Whole, Cut}
-use Rattle.cases.specs.Cases.{steps_at, text_at, case_end, case_of, answer, counted, ended, tallied}
+use Rattle.cases.specs.declared.count.Case.{Case}
+use Rattle.cases.specs.Cases.{steps_at, text_at, case_end, case_of, answer, counted, ended, none, tallied, tally_of}
 
 -- a case as the code has it
-pub record IsWhole (b : List ℕ) (s t e : ℕ) : Type 0 where
+pub record IsWhole (b : List ℕ) (k : Case) : Type 0 where
   pub test : leb (case_end b) (length b) ≡ true
-  pub steps : s ≡ steps_at b
-  pub text : t ≡ text_at b
-  pub end : e ≡ case_end b
+  pub steps : k.steps ≡ steps_at b
+  pub text : k.text ≡ text_at b
+  pub end : k.end ≡ case_end b
 
-pub is_whole : (b : List ℕ) (s t e : ℕ) → Whole s t e ≡ case_of b → IsWhole b s t e
-is_whole b s t e h =
+pub is_whole : (b : List ℕ) (k : Case) → Some k ≡ case_of b → IsWhole b k
+is_whole b k h =
     either (leb (case_end b) (length b))
-    (λ y. let q : Whole s t e ≡ Whole (steps_at b) (text_at b) (case_end b) = rw y at h in record { test = y; steps = cc; text = cc; end = cc })
-    (λ y. let q : Whole s t e ≡ Cut = rw y at h in let z : ◌≡◌ {A = ℕ} 0 1 = cc in absurd (omega arith))
+    (λ y. let q : Some k ≡ Some (record { steps = steps_at b; text = text_at b; end = case_end b }) = rw y at h in record { test = y; steps = cc; text = cc; end = cc })
+    (λ y. let q : Some k ≡ None = rw y at h in let z : ◌≡◌ {A = ℕ} 0 1 = cc in absurd (omega arith))
 
-pub is_cut : (b : List ℕ) → Cut ≡ case_of b → leb (case_end b) (length b) ≡ false
+pub is_cut : (b : List ℕ) → None ≡ case_of b → leb (case_end b) (length b) ≡ false
 is_cut b h =
     either (leb (case_end b) (length b))
-    (λ y. let q : Cut ≡ Whole (steps_at b) (text_at b) (case_end b) = rw y at h in let z : ◌≡◌ {A = ℕ} 0 1 = cc in absurd (omega arith))
+    (λ y. let q : None ≡ Some (record { steps = steps_at b; text = text_at b; end = case_end b }) = rw y at h in let z : ◌≡◌ {A = ℕ} 0 1 = cc in absurd (omega arith))
     (λ y. y)
 
 -- no whole case
@@ -64,9 +65,9 @@ tallied_next (suc n) t b h y =
     (omega (arith, length-drop (case_end b) b)) (omega (arith, length-drop (case_end b) b)))
 
 -- one turn of the loop: the case at a place of the file, with the answer r
-pub tallied_turn : (f : List ℕ) (at : ℕ) (t u : Tally) (steps text end : ℕ) (r : Bool) → IsWhole (drop at f) steps text end
-    → r ≡ answer (drop at f) steps text end → u ≡ counted t r → tallied (length f - (at + end)) u (drop (at + end) f) ≡ tallied (length f - at) t (drop at f)
-tallied_turn f at t u steps text end r w a e =
+pub tallied_turn : (f : List ℕ) (at : ℕ) (t u : Tally) (k : Case) (r : Bool) → IsWhole (drop at f) k
+    → r ≡ answer (drop at f) k.steps k.text k.end → u ≡ counted t r → tallied (length f - (at + k.end)) u (drop (at + k.end) f) ≡ tallied (length f - at) t (drop at f)
+tallied_turn f at t u k r w a e =
     let b = drop at f in
     let sum : length f - at - case_end b ≡ length f - (at + case_end b) = omega arith in
     rw (e, a, w.steps, w.text, w.end, ← sum, ← drop-drop (case_end b) at f)
@@ -80,3 +81,23 @@ counted_cases t false = refl
 pub counted_differ : (t : Tally) (s : Bool) → (counted t s).differ ≤ t.differ + 1
 counted_differ t true = omega arith
 counted_differ t false = omega arith
+
+-- the number of the first stands beside how many differ: none where none does
+abbrev FirstTold : ℕ → Option ℕ → Type 0
+FirstTold n None = n ≡ 0
+FirstTold n (Some k) = 0 < n
+
+counted_told : (t : Tally) (s : Bool) → FirstTold t.differ t.first → FirstTold (counted t s).differ (counted t s).first
+counted_told t true h = h
+counted_told t false h = omega arith
+
+tallied_told : (n : ℕ) (t : Tally) (b : List ℕ) → FirstTold t.differ t.first → FirstTold (tallied n t b).differ (tallied n t b).first
+unfolding tallied
+tallied_told zero t b h = h
+tallied_told (suc n) t b h =
+    let r = answer b (steps_at b) (text_at b) (case_end b) in
+    by_test (λ (u : Tally). FirstTold u.differ u.first) (leb (case_end b) (length b))
+    (λ _. tallied_told n (counted t r) (drop (case_end b) b) (counted_told t r h)) (λ _. h)
+
+pub first_told : (f : List ℕ) → FirstTold (tally_of f).differ (tally_of f).first
+first_told f = tallied_told (length f) none f refl

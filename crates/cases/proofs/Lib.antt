@@ -1,3 +1,2 @@
 mod Beside
 mod Counting
-mod Texts

@@ -1,12 +1,11 @@
 -- The file of cases and what comes of them.
 -- Assumes nothing.
-use Rattle.std.specs.Prelude.{ℕ, zero, suc, ◌+◌, ◌-◌, Bool, true, false, cond, List, length, take, drop, eqb, ltb, leb}
+use Rattle.std.specs.Prelude.{ℕ, zero, suc, ◌+◌, ◌-◌, Bool, true, false, cond, List, length, take, drop, ltb, leb, Option, Some, None, unwrap_or}
 use Rattle.ascii.specs.Text.{same}
 use Rattle.cell.specs.Item.{word}
 use Rattle.cases.specs.Text.{replay_text}
 use Rattle.cases.specs.declared.count.Tally.{Tally}
 use Rattle.cases.specs.declared.count.Case.{Case}
-use Rattle.cases.specs.declared.count.Case.TheVariants.{Whole, Cut}
 
 -- ---- a case: three lengths of four bytes, then the table, the steps and the text that is expected
 
@@ -20,9 +19,10 @@ text_at b = steps_at b + word b 4 4
 abbrev pub case_end : List ℕ → ℕ
 case_end b = text_at b + word b 8 4
 
--- the case at the front of some bytes, or that they end within it
-abbrev pub case_of : List ℕ → Case
-case_of b = cond (leb (case_end b) (length b)) (Whole (steps_at b) (text_at b) (case_end b)) Cut
+-- the case at the front of some bytes; none where they end within it
+abbrev pub case_of : List ℕ → Option Case
+case_of b =
+    cond (leb (case_end b) (length b)) (Some (record { steps = steps_at b; text = text_at b; end = case_end b })) None
 
 -- the bytes from place i to place j
 abbrev pub part : ℕ → ℕ → List ℕ → List ℕ
@@ -35,12 +35,12 @@ answer b s t e = same (part t e b) (replay_text (part 12 s b) (part s t b))
 -- ---- how many there are and how many differ
 
 abbrev pub none : Tally
-none = record { cases = 0; differ = 0; first = 0; cut = false }
+none = record { cases = 0; differ = 0; first = None; cut = false }
 
 -- one case more. The cases are counted from 1
 abbrev pub counted : Tally → Bool → Tally
 counted t true = record { cases = t.cases + 1; differ = t.differ; first = t.first; cut = t.cut }
-counted t false = record { cases = t.cases + 1; differ = t.differ + 1; first = cond (eqb t.differ 0) (t.cases + 1) t.first; cut = t.cut }
+counted t false = record { cases = t.cases + 1; differ = t.differ + 1; first = Some (unwrap_or t.first (t.cases + 1)); cut = t.cut }
 
 -- no whole case is left; bytes that are left are a case that is cut
 abbrev pub ended : Tally → ℕ → Tally

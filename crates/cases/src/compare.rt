@@ -1,21 +1,14 @@
 // Whether a text is what `replay` prints of a table and a file of steps: the text beside the lines, page by page.
-ghost use Rattle.std.specs.Prelude.{◌≡◌, ◌+◌, ◌≤◌, length, take};
+ghost use Rattle.std.specs.Prelude.{◌≡◌, ◌+◌, ◌≤◌, length, is_some, IfSome};
 ghost use Rattle.ascii.specs.Text.{same};
 ghost use Rattle.output.specs.Cells.{file_limit};
 ghost use Rattle.output.specs.State.{file_left};
-ghost use Rattle.output.specs.Page.{page_room, lines_text, page_text, page_rest, Whole};
-ghost use Rattle.cases.specs.Text.{replay_text};
+ghost use Rattle.output.specs.Page.{page_room, lines_text};
+ghost use Rattle.output.specs.declared.Page.{Page};
+ghost use Rattle.cases.specs.Text.{replay_text, begins_page, IsPage};
 
 use layout::BinTable;
-use output::{PAGE_ROOM, State};
-
-// A page: how long it is, the state after it, and whether the text begins with it.
-#[derive(Clone, Copy)]
-struct Compared {
-    len: usize,
-    state: State,
-    begins: bool,
-}
+use output::{PAGE_ROOM, Page, Start, State};
 
 // The buffer of a page. Its contents do not matter, and the proof of a caller is shorter without them.
 fn zeros() -> [u8; PAGE_ROOM]
@@ -24,25 +17,22 @@ fn zeros() -> [u8; PAGE_ROOM]
     [0; PAGE_ROOM]
 }
 
-// The next page beside a text.
-fn compare_page(file: &[u8], layout: BinTable, steps: &[u8], state: State, text: &[u8]) -> Compared
-    ensures len { result.len ≡ length (page_text page_room (file_left file.now layout steps.now state)) }
-    ensures state { file_left file.now layout steps.now result.state
-        ≡ page_rest page_room (file_left file.now layout steps.now state) }
-    ensures whole { Whole (length file.now + 128) page_room result.len (file_left file.now layout steps.now state) }
-    ensures begins { result.begins ≡ same (take result.len text.now)
-        (page_text page_room (file_left file.now layout steps.now state)) }
+// The next page, if the text begins with it.
+fn compare_page(
+    file: &[u8],
+    layout: BinTable,
+    steps: &[u8],
+    state: State,
+    text: &[u8],
+) -> Option<Page>
+    ensures begins { is_some result ≡ begins_page text.now (file_left file.now layout steps.now state) }
+    ensures page { IfSome result (λ (p : Page).
+        IsPage (length file.now + 128) (file_left file.now layout steps.now state)
+        (file_left file.now layout steps.now p.state) p.len) }
 {
     let mut out = zeros();
     let page = output::next_page(file, layout, steps, state, &mut out);
-    let len = page.len;
-    let after = page.state;
-    let begins = ascii::begins_with(text, &out[..len]);
-    Compared {
-        len,
-        state: after,
-        begins,
-    }
+    ascii::begins_with(text, &out[..page.len]).then_some(page)
 }
 
 // Whether a text is what is left to print: page after page stands in it, and after the last one nothing is left of it.
@@ -53,15 +43,14 @@ fn same_pages(file: &[u8], layout: BinTable, steps: &[u8], state: State, text: &
     let mut at: usize = 0;
     let mut current = state;
     loop {
-        let compared = compare_page(file, layout, steps, current, &text[at..]);
-        if compared.len == 0 {
+        let Some(page) = compare_page(file, layout, steps, current, &text[at..]) else {
+            return false;
+        };
+        if page.len == 0 {
             return at == text.len();
         }
-        if !compared.begins {
-            return false;
-        }
-        at += compared.len;
-        current = compared.state;
+        at += page.len;
+        current = page.state;
     }
 }
 
@@ -70,8 +59,6 @@ pub fn same_text(file: &[u8], steps: &[u8], expected: &[u8]) -> bool
     ensures { result ≡ same expected.now (replay_text file.now steps.now) }
 {
     let table = output::first_bytes(file);
-    let start = output::replay_start(table, steps);
-    let layout = start.layout;
-    let state = start.state;
+    let Start { layout, state } = output::replay_start(table, steps);
     same_pages(table, layout, output::first_bytes(steps), state, expected)
 }

@@ -6,25 +6,22 @@ ghost use Rattle.cases.specs.Cases.{case_of, answer, counted, ended, tally_of};
 
 use super::compare;
 
-// How many cases there are, how many of them differ, the number of the first that does (from 1; 0 where none does),
-// and whether the file ends within a case.
+// How many cases there are, how many of them differ, the number of the first that does, from 1, and whether the file
+// ends within a case, which is told beside the rest.
 #[derive(Clone, Copy)]
 pub struct Tally {
     pub cases: u64,
     pub differ: u64,
-    pub first: u64,
+    pub first: Option<u64>,
     pub cut: bool,
 }
 
 // Where the steps and the text of a case begin, and where it ends.
 #[derive(Clone, Copy)]
-enum Case {
-    Whole {
-        steps: usize,
-        text: usize,
-        end: usize,
-    },
-    Cut,
+struct Case {
+    steps: usize,
+    text: usize,
+    end: usize,
 }
 
 // The number that the four bytes from a place on say. The bound is for the sums of three of them.
@@ -35,27 +32,28 @@ fn length_at(bytes: &[u8], at: u8) -> usize
     cell::words::u32_at(bytes, 0, at) as usize
 }
 
-// The case at the front of some bytes.
-fn first_case(bytes: &[u8]) -> Case
+// The case at the front of some bytes; none where they end within it.
+fn first_case(bytes: &[u8]) -> Option<Case>
     ensures { result ≡ case_of bytes.now }
 {
     if bytes.len() < 12 {
-        return Case::Cut;
+        return None;
     }
     let steps = 12 + length_at(bytes, 0);
     let text = steps + length_at(bytes, 4);
     let end = text + length_at(bytes, 8);
     if bytes.len() < end {
-        return Case::Cut;
+        return None;
     }
-    Case::Whole { steps, text, end }
+    Some(Case { steps, text, end })
 }
 
 // Whether the text of a case is what `replay` prints of its table and its steps.
-fn case_answer(bytes: &[u8], steps: usize, text: usize, end: usize) -> bool
-    requires { (12 ≤ steps) × (steps ≤ text) × (text ≤ end) × (end ≤ length bytes.now) }
-    ensures { result ≡ answer bytes.now steps text end }
+fn case_answer(bytes: &[u8], case: Case) -> bool
+    requires { (12 ≤ case.steps) × (case.steps ≤ case.text) × (case.text ≤ case.end) × (case.end ≤ length bytes.now) }
+    ensures { result ≡ answer bytes.now case.steps case.text case.end }
 {
+    let Case { steps, text, end } = case;
     compare::same_text(&bytes[12..steps], &bytes[steps..text], &bytes[text..end])
 }
 
@@ -65,30 +63,14 @@ fn count_case(tally: Tally, same: bool) -> Tally
     ensures { result ≡ counted tally same }
 {
     let cases = tally.cases + 1;
-    let differ = tally.differ;
-    let first = tally.first;
-    let cut = tally.cut;
     if same {
-        return Tally {
-            cases,
-            differ,
-            first,
-            cut,
-        };
-    }
-    if differ == 0 {
-        return Tally {
-            cases,
-            differ: 1,
-            first: cases,
-            cut,
-        };
+        return Tally { cases, ..tally };
     }
     Tally {
         cases,
-        differ: differ + 1,
-        first,
-        cut,
+        differ: tally.differ + 1,
+        first: Some(tally.first.unwrap_or(cases)),
+        ..tally
     }
 }
 
@@ -97,10 +79,8 @@ fn end_cases(tally: Tally, left: usize) -> Tally
     ensures { result ≡ ended tally left }
 {
     Tally {
-        cases: tally.cases,
-        differ: tally.differ,
-        first: tally.first,
         cut: 0 < left,
+        ..tally
     }
 }
 
@@ -112,17 +92,16 @@ pub fn run_cases(file: &[u8]) -> Tally
     let mut tally = Tally {
         cases: 0,
         differ: 0,
-        first: 0,
+        first: None,
         cut: false,
     };
     let mut at: usize = 0;
     loop {
         let rest = &file[at..];
-        let case = first_case(rest);
-        let Case::Whole { steps, text, end } = case else {
+        let Some(case) = first_case(rest) else {
             return end_cases(tally, rest.len());
         };
-        tally = count_case(tally, case_answer(rest, steps, text, end));
-        at += end;
+        tally = count_case(tally, case_answer(rest, case));
+        at += case.end;
     }
 }

@@ -17,8 +17,5 @@ pub fn report_cases(file: &[u8], out: &mut [u8]) -> Option<usize>
     ensures to { result ≡ written_to out.old 0 (report_text (tally_of file.now)) }
     ensures buffer { out.new ≡ written out.old 0 (report_text (tally_of file.now)) }
 {
-    let tally = count::run_cases(file);
-    let mut text = [0u8; 130];
-    let n = report::put_report(&mut text, tally);
-    ascii::buffer::put_text(out, 0, &text[..n])
+    report::report_line(count::run_cases(file)).put_to(out, 0)
 }

@@ -2,10 +2,7 @@ pub mod Widths
 pub mod Same
 pub mod Kept
 pub mod Numbers
-pub mod Signed
-pub mod Nan
+pub mod Swapped
 pub mod Arrays
-pub mod Values
-pub mod Items
 pub mod Inside
 pub mod Empty

@@ -1,3 +1,2 @@
 pub mod Item
 pub mod Field
-pub mod Swap

@@ -14,14 +14,15 @@ use std::fs::File;
 use std::io;
 use std::io::{Read, Write};
 
-// A buffer for the bytes of a file that are looked at.
+// A buffer for the bytes of a file that are looked at. A program needs no heap for them, however long the file is.
 pub fn file_buffer() -> [u8; FILE_LIMIT]
     ensures { file_limit ≡ length result }
 {
     [0; FILE_LIMIT]
 }
 
-// Reads until the buffer is full, the file ends or a read fails. How many bytes were read.
+// Reads until the buffer is full, the file ends or a read fails. How many bytes were read: the library's calls that
+// read to the end fill a Vec, and `read_exact` does not say how far it came.
 fn fill(file: &mut File, buffer: &mut [u8]) -> usize
     ensures { result ≤ length buffer.new }
 {
@@ -38,8 +39,8 @@ fn fill(file: &mut File, buffer: &mut [u8]) -> usize
     n
 }
 
-// The first bytes of a file, as many as the buffer takes, and how many they are. A missing file counts as an empty one,
-// and so does one whose name is not UTF-8, since the standard library opens none.
+// The first bytes of a file, as many as the buffer takes, and how many they are. A missing file counts as an empty
+// one, and so does one whose name is not UTF-8, since the standard library opens none.
 pub fn read_file(rt: &HostRuntime, name: &[u8], buffer: &mut [u8]) -> usize
     ensures len { result ≤ length buffer.new }
     ensures front { result ≡ length (take result buffer.new) }
@@ -82,4 +83,14 @@ pub fn print_pages(
         output::first_bytes(steps),
         state,
     )
+}
+
+// What the program `cells` does: prints the table of the file table.fits, its columns and every cell (docs/FORMAT.md,
+// section 16).
+pub fn print_cells(rt: &HostRuntime) {
+    let mut buffer = file_buffer();
+    let n = read_file(rt, b"table.fits", &mut buffer);
+    let file = &buffer[..n];
+    let start = output::cells_start(file);
+    print_pages(rt, file, start.layout, b"", start.state);
 }

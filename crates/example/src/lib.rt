@@ -25,8 +25,8 @@ pub fn first_weight(header: &[u8], area: &[u8]) -> Result<Option<Cell>, Refusal>
     row::next(&mut cursor, layout, area)
 }
 
-// The first row read into a list of 512 cells: its answer, the cursor after it, and cell k of the list. Of a table that is
-// refused the empty one is read, and that read is refused.
+// The first row read into a list of 512 cells: its answer, the cursor after it, and cell k of the list. Of a table
+// that is refused the empty one is read, and that read is refused.
 pub fn of_first_row(header: &[u8], area: &[u8], k: usize) -> RowCell
     ensures step { row_result result.stepped.cursor result.stepped.answer (first_row header.now area.now).list
         ≡ first_row header.now area.now }

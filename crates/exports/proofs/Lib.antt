@@ -1,5 +1,4 @@
 -- What the proofs of several functions use.
-mod Signs
 mod Sums
 mod CellReads
 mod Opened

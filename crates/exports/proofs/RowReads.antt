@@ -3,7 +3,7 @@
 use Rattle.std.specs.Prelude.{Option, Some, None, Result, Ok, Err}
 use Prim.Native.Nat.{ℕ, suc, ◌-◌, ◌≤◌, ◌<◌}
 use mathlib.Core.Path.{◌≡◌, refl, ap, sym, subst, ◌∙◌}
-use mathlib.Core.Bool.{true, false, cond, ◌&&◌, false≢true, true≢false}
+use mathlib.Core.Bool.{true, cond, ◌&&◌, false≢true}
 use mathlib.Core.List.{List}
 use native.Mathlib.Omega.{arith}
 use lib.Dec.{leb, ltb}
@@ -18,7 +18,7 @@ use Rattle.walk.specs.declared.TableData.{TableData}
 use Rattle.walk.specs.declared.Entry.{Entry}
 use Rattle.walk.specs.declared.Stepped.{Stepped}
 use Rattle.walk.specs.Plain.{row_entries}
-use Rattle.walk.specs.Walk.{read_row, Reply, got_cell, got_row, sought, at_end, refused, State, placed, grown, place_ok, Gathered, all_cells, outside, row_outcome, rest, walk_step}
+use Rattle.walk.specs.Walk.{read_row, State, placed, grown, place_ok, Gathered, all_cells, outside, row_outcome, rest, walk_step}
 use Rattle.walk.specs.Step.{fits, choice_ok, belongs, state_of, cursor_at, StepResult, with_cursor, cursor_step, row_reply, row_result}
 use Rattle.walk.proofs.Follows.{ok_start}
 use Rattle.exports.specs.Checksum.{add_cells, with_number}

@@ -6,30 +6,26 @@ use super::checksum::add_word;
 use layout::BinTable;
 use tform::TFormType;
 
-// The letter of a descriptor's elements; 0 for items.
+// The letter of a descriptor's elements; 0 for items. No `From`, since both types are another crate's.
 fn element_letter(form: TFormType) -> u8
     ensures { result ≡ element_letter form }
 {
     match form {
         TFormType::Items(_) => 0,
-        TFormType::P(ty) => tform::letter(ty),
-        TFormType::Q(ty) => tform::letter(ty),
+        TFormType::P(ty) | TFormType::Q(ty) => tform::letter(ty),
     }
 }
 
+#[tactic(auto, using(crate::proofs::Sums::words_folded))]
 fn add_bytes(sum: u32, text: &[u8]) -> u32
     ensures { result ≡ add_words sum text.now }
 {
-    let mut total = sum;
-    let mut i: usize = 0;
-    while i < text.len() {
-        total = add_word(total, text[i] as u64);
-        i += 1;
-    }
-    total
+    text.iter()
+        .fold(sum, |total, byte| add_word(total, *byte as u64))
 }
 
 // A column: its letters, count and start, and its name.
+#[tactic(auto, unfolding(crate::specs::Checksum::add_words, crate::specs::Checksum::column_words))]
 fn add_column(sum: u32, header: &[u8], layout: BinTable, c: usize) -> u32
     requires { c < 64 }
     ensures { result ≡ add_words sum (column_words header.now layout c) }
@@ -44,6 +40,7 @@ fn add_column(sum: u32, header: &[u8], layout: BinTable, c: usize) -> u32
 }
 
 // The sizes of a layout, then its columns.
+#[tactic(auto, using(crate::proofs::Sums::sizes_first, crate::proofs::Sums::column_next, crate::proofs::Sums::columns_done))]
 pub fn sum_layout(header: &[u8], layout: BinTable) -> u32
     requires { layout.tfields ≤ 64 }
     ensures { result ≡ layout_sum header.now layout }
@@ -53,10 +50,8 @@ pub fn sum_layout(header: &[u8], layout: BinTable) -> u32
     sum = add_word(sum, layout.pcount);
     sum = add_word(sum, layout.theap);
     sum = add_word(sum, layout.tfields as u64);
-    let mut c: usize = 0;
-    while c < layout.tfields {
+    for c in 0..layout.tfields {
         sum = add_column(sum, header, layout, c);
-        c += 1;
     }
     sum
 }

@@ -1,5 +1,6 @@
-// Checksums of the cells that reads hand out, and of a layout, for the benchmark and the oracle to call: a layout and a
-// cell hold enums, which cannot be passed to C or Rust. Each sum has the number of a refusal above its 32 bits, or 0.
+// Checksums of the cells that reads hand out, and of a layout, for the benchmark and the oracle to call: a layout
+// and a cell hold enums, which cannot be passed to C or Rust. Each sum has the number of a refusal above its 32
+// bits, or 0.
 #![tactic(auto)]
 
 mod cells;
@@ -20,7 +21,6 @@ ghost use Rattle.exports.specs.declared.Start.{Start};
 ghost use Rattle.exports.specs.Checksum.{entry_sum};
 ghost use Rattle.exports.specs.Reads.{by_cells, by_rows, list_length, table_reads, reads_sum};
 
-use cells::{ByValue, Lent};
 use layout::BinTable;
 use refusal::Refusal;
 use walk::TableData;
@@ -45,16 +45,24 @@ fn open_table(header: &[u8], area: &[u8], cols: &[usize], heap: bool) -> Result<
     Ok(Start { layout, cursor })
 }
 
+// The sum of the cells that cell reads of the chosen columns hand out, with the cursor by value
+// or lent.
+fn sum_table<const LENT: bool>(header: &[u8], area: &[u8], cols: &[usize], heap: bool) -> u64
+    ensures { result ≡ reads_sum (table_reads by_cells header.now area.now cols.now heap) }
+{
+    match open_table(header, area, cols, heap) {
+        Ok(Start { layout, cursor }) => cells::sum_cells::<LENT>(layout, area, cursor),
+        Err(refusal) => refusals::refused(0, refusal),
+    }
+}
+
 // The checksum of the cells that cell reads of the chosen columns hand out, with the cursor by value.
 #[unsafe(no_mangle)]
 pub extern "C" fn coentrift_sum_cells(header: &[u8], area: &[u8], cols: &[usize], heap: bool) -> u64
     ensures { result
         ≡ reads_sum (table_reads by_cells header.now area.now cols.now heap) }
 {
-    match open_table(header, area, cols, heap) {
-        Ok(Start { layout, cursor }) => cells::sum_cells::<ByValue>(layout, area, cursor),
-        Err(refusal) => refusals::refused(0, refusal),
-    }
+    sum_table::<false>(header, area, cols, heap)
 }
 
 // The same, with the cursor lent.
@@ -63,13 +71,11 @@ pub extern "C" fn coentrift_sum_lent(header: &[u8], area: &[u8], cols: &[usize],
     ensures { result
         ≡ reads_sum (table_reads by_cells header.now area.now cols.now heap) }
 {
-    match open_table(header, area, cols, heap) {
-        Ok(Start { layout, cursor }) => cells::sum_cells::<Lent>(layout, area, cursor),
-        Err(refusal) => refusals::refused(0, refusal),
-    }
+    sum_table::<true>(header, area, cols, heap)
 }
 
-// The checksum of the cells that row reads store. One list of 512 cells is lent to all; a row with more is refused.
+// The checksum of the cells that row reads store. One list of 512 cells is lent to all; a row with more is refused. It
+// is another way to read, with another contract, so its match is its own.
 #[unsafe(no_mangle)]
 pub extern "C" fn coentrift_sum_rows(header: &[u8], area: &[u8], cols: &[usize], heap: bool) -> u64
     ensures { result
@@ -82,6 +88,7 @@ pub extern "C" fn coentrift_sum_rows(header: &[u8], area: &[u8], cols: &[usize],
 }
 
 // The checksum of the layout.
+#[tactic(auto, using(crate::proofs::Opened::few_columns))]
 #[unsafe(no_mangle)]
 pub extern "C" fn coentrift_layout(header: &[u8], area: &[u8]) -> u64
     ensures { result ≡ entry_sum header.now (entry header.now area.now) }

@@ -4,12 +4,13 @@ ghost use Rattle.refusal.specs.Refusal.{number_of};
 ghost use Rattle.exports.specs.Checksum.{with_number};
 ghost use Rattle.exports.specs.Loops.{number_in};
 
+use super::checksum::WORD_LIMIT;
 use refusal::Refusal;
 
 pub fn refused(sum: u32, refusal: Refusal) -> u64
     ensures { result ≡ with_number (number_of refusal) sum }
 {
-    refusal::number(refusal) * 4294967296 + sum as u64
+    refusal::number(refusal) * WORD_LIMIT + sum as u64
 }
 
 // With the answer that ends the reads: an item, or none, has no number.

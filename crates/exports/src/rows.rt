@@ -13,18 +13,14 @@ use walk::TableData;
 const LIST_LENGTH: usize = 512;
 
 // The first n cells of a list.
+#[tactic(auto, using(crate::proofs::Sums::cells_folded))]
 fn add_front(list: &[Cell], n: usize, sum: u32) -> u32
     requires { n ≤ length list.now }
     ensures { result ≡ add_cells sum (take n list.now) }
 {
-    let mut total = sum;
-    let mut i: usize = 0;
-    while i < n {
-        let cell = list[i];
-        total = checksum::add_cell(total, cell);
-        i = i + 1;
-    }
-    total
+    list[..n]
+        .iter()
+        .fold(sum, |total, cell| checksum::add_cell(total, *cell))
 }
 
 // The rows from a cursor on, up to the first that is not read.

@@ -3,30 +3,18 @@
 use mathlib.Core.Path.{◌≡◌, sym, ◌∙◌}
 use mathlib.Core.Bool.{true, false, or-true, true≢false}
 use mathlib.Core.List.{List, []}
-use Prim.Native.Nat.{ℕ, ◌%◌, ◌≤◌, ◌<◌}
+use Prim.Native.Nat.{ℕ, ◌≤◌, ◌<◌}
 use lib.ListN.{length}
 use lib.Dec.{eqb, ltb}
-use borrow.Author.Tests.{eq-eqb, ne_eqb, lt-ltb, le-ltb, ltb-true, ltb-false}
+use borrow.Author.Tests.{lt-ltb, ltb-true, ltb-false}
 use Rattle.ascii.proofs.Cases.{either}
 use Rattle.refusal.specs.Refusal.{refused}
 use Rattle.header.specs.Checks.{bad_length, check1, checked, names_read}
 
 module _ (h : List ℕ) where
-  pub length_none : length h ≡ 0 → bad_length h ≡ true
-  unfolding bad_length
-  length_none e = rw (eq-eqb (length h) 0 e)
-
   pub length_over : 57600 < length h → bad_length h ≡ true
   unfolding bad_length
   length_over p = rw (lt-ltb 57600 (length h) p) (or-true (eqb (length h) 0))
-
-  pub length_part : (length h % 2880 ≡ 0 → ⊥) → bad_length h ≡ true
-  unfolding bad_length
-  length_part n = rw (ne_eqb (length h % 2880) 0 n, or-true (ltb 57600 (length h)), or-true (eqb (length h) 0))
-
-  pub length_good : (length h ≡ 0 → ⊥) → length h ≤ 57600 → length h % 2880 ≡ 0 → bad_length h ≡ false
-  unfolding bad_length
-  length_good n p e = rw (ne_eqb (length h) 0 n, le-ltb 57600 (length h) p, eq-eqb (length h % 2880) 0 e)
 
   pub bad_check : bad_length h ≡ true → refused 1 0 ≡ checked h
   unfolding checked check1

@@ -1,7 +1,7 @@
 -- What a slot of an index says, and what an accepted header is, for callers.
 -- Assumes nothing.
-use Rattle.std.specs.Prelude.{Option}
-use mathlib.Core.Path.{◌≡◌, ◌∙◌, ap}
+use Rattle.header.specs.declared.Entry.{Entry}
+use mathlib.Core.Path.{◌≡◌, ap}
 use mathlib.Core.Bool.{true, false}
 use mathlib.Core.List.{List, []}
 use Prim.Native.Nat.{ℕ, ◌<◌}
@@ -11,16 +11,18 @@ use Rattle.ascii.proofs.Cases.{either}
 use Rattle.keyword.specs.Names.{slot_names}
 use Rattle.header.specs.Records.{records, has_end, names}
 use Rattle.refusal.specs.Refusal.{accepted}
-use Rattle.header.specs.Checks.{bad_length, check1, check2, checked, names_read, numbered, placed, index_by}
+use Rattle.header.specs.Checks.{bad_length, check1, check2, checked, names_read}
+use Rattle.header.specs.Checks.{record_of, records_of, no_entry, index_by, first_at}
 use Rattle.keyword.proofs.Position.{map_at}
-use Rattle.header.proofs.Pass.{placed_numbered}
 
--- the record of the slot's name
-pub slot_place : (place : List ℕ → Option ℕ) (s : ℕ) → s < length slot_names
-    → placed (get_or (index_by place) s 0) ≡ place (get_or slot_names s [])
-unfolding index_by
-slot_place place s p = ap placed (map_at (λ (n : List ℕ). numbered (place n)) slot_names s 0 p)
-    ∙ placed_numbered (place (get_or slot_names s []))
+-- an index gives for a slot the records of the slot's name, and so the first
+module _ (h : List ℕ) (s : ℕ) (p : s < length slot_names) where
+  pub slot_place : get_or (index_by h) s no_entry ≡ records_of h (get_or slot_names s [])
+  unfolding index_by
+  slot_place = map_at (records_of h) slot_names s no_entry p
+
+  pub slot_first : first_at (index_by h) s ≡ record_of h (get_or slot_names s [])
+  slot_first = ap (λ (e : Entry). e.first) slot_place
 
 module _ (h : List ℕ) (e : checked h ≡ accepted) where
   pub accepted_length : bad_length h ≡ false

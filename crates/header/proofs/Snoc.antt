@@ -4,18 +4,14 @@ use Rattle.std.specs.Prelude.{Option, Some, None}
 use mathlib.Core.Path.{◌≡◌, refl, ap, ◌∙◌}
 use mathlib.Core.Bool.{Bool, true, false, ◌&&◌, cond, and-true}
 use mathlib.Core.List.{List, [], ◌∷◌, ◌++◌, append-nil}
-use Prim.Native.Nat.{ℕ, suc, ◌+◌}
+use Prim.Native.Nat.{ℕ, suc}
 use native.Mathlib.Nat.{add-zero}
-use native.Mathlib.Omega.{arith}
 use lib.ListN.{length}
 use lib.Seq.{append_snoc}
-use borrow.Author.Tests.{ne_eqb}
 use Rattle.ascii.specs.Text.{same}
 use Rattle.ascii.proofs.Cases.{either}
 use Rattle.keyword.specs.Names.{once_names, later, further, position}
 use Rattle.header.specs.Records.{second, found, repeated_after}
-use Rattle.header.specs.Checks.{numbered}
-use Rattle.header.specs.Noting.{kept}
 use Rattle.keyword.proofs.Position.{or_else, position_append}
 
 -- a place m, if a test holds
@@ -61,8 +57,3 @@ repeated_snoc x seen [] = rw (append-nil seen)
 repeated_snoc x seen (y ∷ ys) =
     let t = found (position y once_names) && found (position y seen) in
     either t (λ e. rw e) (λ e. rw e (rw (append_snoc seen y ys) at (repeated_snoc x (seen ++ (y ∷ [])) ys)))
-
--- a place that is kept, as numbers
-pub numbered_kept : (f : Option ℕ) (m : ℕ) → numbered (or_else f (Some m)) ≡ kept (numbered f) (m + 1)
-numbered_kept (Some k) m = rw (ne_eqb (k + 1) 0 (λ e. omega arith))
-numbered_kept None m = refl

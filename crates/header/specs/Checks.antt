@@ -1,8 +1,9 @@
 -- The first three checks of a header (FORMAT.md, section 5), in their order, and the index of its used names.
 -- Assumes nothing.
-use Rattle.std.specs.Prelude.{ℕ, zero, suc, ◌+◌, ◌%◌, List, [], map, Bool, not, ◌||◌, cond, length, eqb, ltb, Option, Some, None}
+use Rattle.std.specs.Prelude.{ℕ, ◌%◌, List, [], map, Bool, not, ◌||◌, cond, length, get_or, eqb, ltb, Option, Some, None}
 use Rattle.refusal.specs.Refusal.{Outcome, accepted, refused, before}
 use Rattle.keyword.specs.Names.{slot_names, position}
+use Rattle.header.specs.declared.Entry.{Entry}
 use Rattle.header.specs.Records.{records, has_end, names, second, repeated}
 
 -- a header of 0 bytes, above 57,600 or no multiple of 2,880
@@ -41,16 +42,17 @@ record_of h n = position n (names_read h)
 abbrev pub second_of : List ℕ → List ℕ → Option ℕ
 second_of h n = second n (names_read h)
 
--- a record as an entry of an index: 0 for none, else one more than its number
-abbrev pub numbered : Option ℕ → ℕ
-numbered (Some k) = k + 1
-numbered None = 0
+-- the records of a used name, and those of a name that no record has
+abbrev pub records_of : List ℕ → List ℕ → Entry
+records_of h n = record { first = record_of h n; second = second_of h n }
 
--- the record that an entry stands for
-abbrev pub placed : ℕ → Option ℕ
-placed zero = None
-placed (suc k) = Some k
+abbrev pub no_entry : Entry
+no_entry = record { first = None; second = None }
 
--- an index: for each slot the entry of a record of its name
-unfoldable pub index_by : (List ℕ → Option ℕ) → List ℕ
-index_by place = map (λ (n : List ℕ). numbered (place n)) slot_names
+-- an index: for each slot the records of its name
+unfoldable pub index_by : List ℕ → List Entry
+index_by h = map (records_of h) slot_names
+
+-- the first record that an index gives for a slot
+abbrev pub first_at : List Entry → ℕ → Option ℕ
+first_at index s = (get_or index s no_entry).first

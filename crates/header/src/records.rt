@@ -1,23 +1,30 @@
-// The pass over the records. An entry of the index is 0 for none, else one more than the record's number.
-ghost use Rattle.std.specs.Prelude.{◌≡◌, false, ℕ, ◌+◌, ◌*◌, ◌/◌, ◌<◌, ◌^◌, min, length, replicate};
+// The pass over the records.
+ghost use Rattle.std.specs.Prelude.{◌≡◌, false, ℕ, ◌+◌, ◌*◌, ◌/◌, ◌<◌, ◌^◌, min, length, replicate, Some, None};
 ghost use Rattle.keyword.specs.Names.{slot_names};
-ghost use Rattle.header.specs.Noting.{entry_at, stored, kept, kept_after};
+ghost use Rattle.header.specs.Noting.{entry_at, stored, kept, noted, kept_after};
 ghost use Rattle.refusal.specs.Refusal.{outcome_of};
-ghost use Rattle.header.specs.Checks.{bad_length, repetition, checked, record_of, second_of, placed, index_by};
+ghost use Rattle.header.specs.Checks.{bad_length, repetition, checked, no_entry, index_by};
 
-use super::Header;
+use super::{BLOCK_BYTES, Entry, Header};
+use card::RECORD_BYTES;
 use keyword::{ONCE, SLOTS};
 use refusal::Refusal;
 
+const BLOCK_RECORDS: usize = BLOCK_BYTES / RECORD_BYTES;
+
+// The records of a name that no record has.
+const NO_ENTRY: Entry = Entry {
+    first: None,
+    second: None,
+};
+
 // A refusal beside the empty index.
 pub fn refused(check: Result<(), Refusal>) -> Header
-    ensures { (result.check ≡ check)
-        × ((result.first ≡ replicate (length slot_names) 0) × (result.second ≡ replicate (length slot_names) 0)) }
+    ensures { (result.check ≡ check) × (result.index ≡ replicate (length slot_names) no_entry) }
 {
     Header {
         check,
-        first: [0; SLOTS],
-        second: [0; SLOTS],
+        index: [NO_ENTRY; SLOTS],
     }
 }
 
@@ -26,88 +33,68 @@ pub fn block_end(size: usize, k: usize) -> usize
     requires { (k < size / 80) × (size < 2 ^ 63) }
     ensures { result ≡ min size ((k / 36 + 1) * 2880) }
 {
-    let end = (k / 36 + 1) * 2880;
-    if size < end {
-        return size;
-    }
-    end
+    size.min((k / BLOCK_RECORDS + 1) * BLOCK_BYTES)
 }
 
-// `old`, or the new entry where `old` is 0, none.
-fn first_entry(old: u16, entry: u16) -> u16
-    ensures { result ≡ kept old entry }
-{
-    if old == 0 {
-        return entry;
-    }
-    old
-}
-
-// The same for a second record, which needs a first one.
-fn second_entry(first: u16, old: u16, entry: u16) -> u16
-    ensures { result ≡ kept_after first old entry }
-{
-    if first == 0 {
-        return old;
-    }
-    first_entry(old, entry)
-}
-
-// Keeps an entry at a place if `first` is not 0, and gives what stood there.
-fn note(index: &mut [u16], place: Option<usize>, first: u16, entry: u16) -> u16
+// Notes a record at the place of its name among the used ones.
+fn note(index: &mut [Entry], place: Option<usize>, number: u16)
     requires { (s : ℕ) → place ≡ Some s → s < length index.old }
-    ensures old { result ≡ entry_at index.old place }
-    ensures index { index.new ≡ stored index.old place (kept_after first (entry_at index.old place) entry) }
+    ensures { index.new ≡ stored index.old place (noted (entry_at no_entry index.old place) number) }
 {
-    let Some(s) = place else {
-        return 0;
+    let Some(slot) = place else {
+        return;
     };
-    let old = index[s];
-    index[s] = second_entry(first, old, entry);
-    old
+    let Entry { first, second } = index[slot];
+    index[slot] = Entry {
+        first: first.or(Some(number)),
+        second: second.or(first.and(Some(number))),
+    };
 }
 
-fn check_of(repeated: u16) -> Result<(), Refusal>
-    ensures { outcome_of result ≡ repetition (placed repeated) }
+// Notes a record at the place of its name among those that must not stand twice, and gives the first one noted there.
+fn see(seen: &mut [Option<u16>], place: Option<usize>, number: u16) -> Option<u16>
+    requires { (s : ℕ) → place ≡ Some s → s < length seen.old }
+    ensures earlier { result ≡ entry_at None seen.old place }
+    ensures seen { seen.new ≡ stored seen.old place (kept (entry_at None seen.old place) number) }
 {
-    if repeated == 0 {
-        return Ok(());
+    let place = place?;
+    let earlier = seen[place];
+    seen[place] = earlier.or(Some(number));
+    earlier
+}
+
+fn check_of(repeated: Option<u16>) -> Result<(), Refusal>
+    ensures { outcome_of result ≡ repetition repeated }
+{
+    match repeated {
+        Some(record) => Err(Refusal::RepeatedName {
+            record: record as usize,
+        }),
+        None => Ok(()),
     }
-    Err(Refusal::RepeatedName {
-        record: (repeated - 1) as usize,
-    })
 }
 
 // What `parse` answers on a header whose length is good.
 pub fn read_records(header: &[u8]) -> Header
     requires { bad_length header.now ≡ false }
     ensures check { outcome_of result.check ≡ checked header.now }
-    ensures first { result.first ≡ index_by (record_of header.now) }
-    ensures second { result.second ≡ index_by (second_of header.now) }
+    ensures index { result.index ≡ index_by header.now }
 {
-    let count = header.len() / 80;
-    let mut first = [0u16; SLOTS];
-    let mut second = [0u16; SLOTS];
-    let mut seen = [0u16; ONCE];
-    let mut repeated: u16 = 0;
-    let mut k: usize = 0;
-    while k < count {
+    let mut index = [NO_ENTRY; SLOTS];
+    let mut seen: [Option<u16>; ONCE] = [None; ONCE];
+    let mut repeated: Option<u16> = None;
+    for k in 0..header.len() / RECORD_BYTES {
         if card::is_end(header, k) {
             return Header {
                 check: check_of(repeated),
-                first,
-                second,
+                index,
             };
         }
         let places = keyword::locate(card::name(header, k));
-        let slot = places.slot;
-        let once = places.once;
-        k += 1;
-        let entry = k as u16;
-        let earlier = note(&mut seen, once, 1, entry);
-        let old = note(&mut first, slot, 1, entry);
-        note(&mut second, slot, old, entry);
-        repeated = second_entry(earlier, repeated, entry);
+        let number = k as u16;
+        note(&mut index, places.slot, number);
+        let earlier = see(&mut seen, places.once, number);
+        repeated = repeated.or(earlier.and(Some(number)));
     }
     refused(Err(Refusal::MissingEnd))
 }

@@ -7,6 +7,7 @@ ghost use Rattle.std.specs.Prelude.{◌<◌, length, IfSome};
 
 use card::Value;
 use case_file::Case;
+use header::Entry;
 use std::{fmt, fs, io};
 
 // A value as it is printed.
@@ -24,19 +25,13 @@ impl fmt::Display for Shown {
 }
 
 // The line of a slot that has a record.
-fn print_slot(
-    rt: &impl Print,
-    header: &[u8],
-    slot: usize,
-    first: Option<usize>,
-    second: Option<usize>,
-) -> io::Result<()> {
-    let Some(record) = first else {
+fn print_slot(rt: &impl Print, header: &[u8], slot: usize, entry: Entry) -> io::Result<()> {
+    let Some(record) = entry.first else {
         return Ok(());
     };
-    let value = Shown(card::parse_value(header, record));
+    let value = Shown(card::parse_value(header, record as usize));
     print!(rt; "slot {slot} record {record} {value}")?;
-    if let Some(again) = second {
+    if let Some(again) = entry.second {
         print!(rt; " again {again}")?;
     }
     println!(rt; "")
@@ -57,10 +52,8 @@ impl<'a> Case<'a> for Header<'a> {
         println!(rt; "header {}", header::header_len(header))?;
         let parsed = header::parse(header);
         case_file::print_check(rt, parsed.check.err(), "passed")?;
-        for slot in 0..parsed.first.len() {
-            let first = header::record_of(&parsed.first, slot);
-            let second = header::record_of(&parsed.second, slot);
-            print_slot(rt, header, slot, first, second)?;
+        for (slot, entry) in parsed.index.iter().enumerate() {
+            print_slot(rt, header, slot, *entry)?;
         }
         Ok(())
     }

@@ -2,15 +2,19 @@
 -- Assumes nothing.
 use Rattle.std.specs.Prelude.{Some, None}
 use mathlib.Core.Path.{◌≡◌, refl, sym, ap, subst, ◌∙◌}
-use mathlib.Core.Bool.{Bool, true, false, cond}
+use mathlib.Core.Bool.{Bool, true, false, cond, ◌&&◌, and-true}
 use mathlib.Core.List.{List, [], ◌∷◌, ◌++◌, map, map-append}
-use Prim.Native.Nat.{ℕ, zero, suc, ◌+◌, ◌-◌, ◌*◌, ◌/◌, ◌%◌, ◌<◌, ◌≤◌}
+use Prim.Native.Nat.{ℕ, zero, suc, ◌+◌, ◌-◌, ◌*◌, ◌/◌, ◌%◌, ◌^◌, ◌<◌, ◌≤◌}
 use native.Mathlib.Omega.{arith}
-use lib.ListN.{length, drop, get_or, drop_of_length-le, length-map}
-use lib.Seq.{drop-cons}
-use lib.Dec.{ltb}
-use borrow.Author.Tests.{lt-ltb, le-ltb, ltb-true, ltb-false}
-use Rattle.ascii.specs.Text.{decimal}
+use lib.ListN.{length, take, get_or, length-map}
+use lib.Dec.{eqb, ltb}
+use Rattle.std.specs.Cmp.Lexicographic.{pointwise}
+use borrow.Author.Tests.{eq-eqb, eqb-true, eqb-false, lt-ltb, le-ltb, ltb-true, ltb-false}
+use Rattle.ascii.specs.Text.{front, digit, decimal}
+use Rattle.ascii.specs.Number.{number}
+use Rattle.ascii.proofs.Cases.{either, both}
+use Rattle.ascii.proofs.Decimal.{digit_range, digit_yes}
+use Rattle.ascii.proofs.Front.{front_passes}
 use Rattle.keyword.specs.Names.{range, numeral, position, index_limit}
 use Rattle.keyword.proofs.Position.{position_at, position_no, position_value, position_front, below, range_append, length_range}
 
@@ -141,12 +145,65 @@ index_front s count h =
     ap (λ (k : ℕ). map numeral (range 1 k)) (omega arith) ∙ ap (map numeral) (range_append 1 count (index_limit - count)) ∙ map-append numeral (range 1 count) _ in
     position_front s m t ∙ rw (l, ← e)
 
--- how a loop reads the number, one digit at a time
-module _ (s : List ℕ) (n i : ℕ) where
-  pub value_next : i < length s → decimal n (drop i s) ≡ decimal (n * 10 + (get_or s i 0 - 48)) (drop (suc i) s)
-  unfolding decimal
-  value_next h = rw (drop-cons s i 0 h)
+-- numerals beside what is read as a number
+module _ (s : List ℕ) where
+  all_digits : (s : List ℕ) → ((i : ℕ) → i < length s → Digit (get_or s i 0)) → front digit s ≡ length s
+  unfolding front
+  all_digits [] h = refl
+  all_digits (b ∷ bs) h =
+      let d = h 0 (omega arith) in
+      rw (digit_yes b d.0 d.1, all_digits bs (λ i p. h (suc i) (omega arith)))
 
-  pub value_ends : length s ≤ i → decimal n (drop i s) ≡ n
-  unfolding decimal
-  value_ends h = rw (drop_of_length-le s h)
+  numeral_number : Numeral s → number s ≡ Some (decimal 0 s)
+  unfolding number
+  numeral_number h =
+      rw (
+        lt-ltb 0 (length s) (omega (arith, h.some)),
+        eq-eqb (front digit s) (length s) (all_digits s h.digits),
+        lt-ltb (decimal 0 s) (2 ^ 64) (omega (arith, (numeral_says s h).most)),
+      )
+
+  pub no_number : None ≡ number s → position s (map numeral (range 1 index_limit)) ≡ None
+  no_number e =
+      index_none s (λ h. let y : None ≡ Some (decimal 0 s) = e ∙ numeral_number h in absurd (let z : ◌≡◌ {A = ℕ} 0 1 = cc in omega arith))
+
+  pub too_long : 3 < length s → position s (map numeral (range 1 index_limit)) ≡ None
+  too_long l = index_none s (λ h. absurd (omega (arith, h.few)))
+
+  -- the test for a zero in front
+  zero_first : pointwise eqb (48 ∷ []) (take 1 s) ≡ eqb 48 (get_or s 0 0)
+  zero_first = by s
+    where
+      by : (s : List ℕ) → pointwise eqb (48 ∷ []) (take 1 s) ≡ eqb 48 (get_or s 0 0)
+      by [] = refl
+      by (b ∷ bs) = and-true (eqb 48 b)
+
+  pub leading_zero : pointwise eqb (48 ∷ []) (take 1 s) ≡ true → position s (map numeral (range 1 index_limit)) ≡ None
+  leading_zero t = index_none s (λ h. h.first (sym (eqb-true 48 (get_or s 0 0) (sym zero_first ∙ t))))
+
+  -- a number that is read, as a numeral
+  pub record Index (n : ℕ) : Type 0 where
+    pub least : 1 ≤ n
+    pub place : Some (n - 1) ≡ position s (map numeral (range 1 index_limit))
+
+  pub number_read : (n : ℕ) → Some n ≡ number s → length s ≤ 3 → pointwise eqb (48 ∷ []) (take 1 s) ≡ false → Index n
+  unfolding number
+  number_read n e few other =
+      let test = ltb 0 (length s) && (eqb (front digit s) (length s) && ltb (decimal 0 s) (2 ^ 64)) in
+      either test
+      (λ t.
+      let y : Some n ≡ Some (decimal 0 s) = rw t at e in
+      let is : n ≡ decimal 0 s = cc in
+      let some = ltb-true 0 (length s) (both _ _ t).0 in
+      let all : front digit s ≡ length s = eqb-true (front digit s) (length s) (both _ _ (both _ _ t).1).0 in
+      let h : Numeral s = record {
+        some = omega arith;
+        few = few;
+        digits = λ i p. digit_range (get_or s i 0) (front_passes digit s i (omega arith));
+        first = λ z. eqb-false 48 (get_or s 0 0) (sym zero_first ∙ other) (sym z);
+      } in
+      record {
+        least = omega (arith, is, (numeral_says s h).least);
+        place = ap (λ (v : ℕ). Some (v - 1)) is ∙ sym (index_of s h);
+      })
+      (λ t. absurd (let y : Some n ≡ None = rw t at e in let z : ◌≡◌ {A = ℕ} 0 1 = cc in omega arith))

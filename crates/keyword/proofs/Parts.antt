@@ -4,12 +4,12 @@
 use Rattle.std.specs.Prelude.{Option, Some, None}
 use mathlib.Core.Path.{◌≡◌, refl, sym, ap, ◌∙◌}
 use mathlib.Core.Bool.{true, false, cond}
-use mathlib.Core.List.{List, [], ◌∷◌, ◌++◌, map, flat_map, flatten}
+use mathlib.Core.List.{List, [], ◌∷◌, ◌++◌, map, flat_map}
 use Prim.Native.Nat.{ℕ, zero, suc, ◌+◌, ◌*◌, ◌<◌, ◌≤◌}
 use native.Mathlib.Nat.{zero-mul, suc-mul, le_of_suc-le-suc}
 use native.Mathlib.Omega.{arith}
-use lib.ListN.{length, take, drop, get_or, replicate, length-append, length-map, take-append-drop}
-use lib.Seq.{take_all, take_at, drop-append-add}
+use lib.ListN.{length, take, drop, get_or, replicate, length-map, take-append-drop}
+use lib.Seq.{take_all, take_at}
 use lib.Dec.{ltb}
 use borrow.Author.Tests.{lt-ltb}
 use Rattle.ascii.specs.Text.{bytes, same}
@@ -92,24 +92,6 @@ pub root_length : (rs : List (List ℕ)) (r : ℕ) → Fives rs → r < length r
 root_length [] r h p = absurd (omega arith)
 root_length (root ∷ rs) zero h p = first_five root rs h
 root_length (root ∷ rs) (suc r) h p = root_length rs r (other_fives root rs h) (le_of_suc-le-suc p)
-
--- the roots one after the other
-pub words_length : (rs : List (List ℕ)) → Fives rs → length (flatten rs) ≡ length rs * 5
-unfolding flatten
-words_length [] h = refl
-words_length (root ∷ rs) h =
-    rw (length-append, words_length rs (other_fives root rs h), first_five root rs h) (omega arith)
-
-pub word_at : (rs : List (List ℕ)) (r : ℕ) → Fives rs → r < length rs
-    → take 5 (drop (r * 5) (flatten rs)) ≡ get_or rs r []
-unfolding flatten
-word_at [] r h p = absurd (omega arith)
-word_at (root ∷ rs) zero h p = take_at root (flatten rs) 5 (first_five root rs h)
-word_at (root ∷ rs) (suc r) h p =
-    let e : suc r * 5 ≡ length root + r * 5 = omega (arith, first_five root rs h) in
-    let d : drop (suc r * 5) (root ++ flatten rs)
-    ≡ drop (r * 5) (flatten rs) = rw e (drop-append-add root (flatten rs) (r * 5)) in
-    ap (take 5) d ∙ word_at rs r (other_fives root rs h) (le_of_suc-le-suc p)
 
 module _ (n : List ℕ) (count : ℕ) where
   -- the bytes after the root as a numeral

@@ -1,4 +1,4 @@
--- Laws of `position`: its cases, what a place says, a place in two lists one after the other, and a place among the values of a function.
+-- Laws of `position`: what a place says, a place in two lists one after the other, and a place among the values of a function.
 -- Assumes nothing.
 use Rattle.std.specs.Prelude.{Option, Some, None}
 use mathlib.Core.Path.{◌≡◌, refl, sym, ap, ap₂, ◌∙◌}
@@ -8,21 +8,13 @@ use Prim.Native.Nat.{ℕ, zero, suc, ◌+◌, ◌-◌, ◌<◌, ◌≤◌}
 use native.Mathlib.Nat.{zero-add, add-zero, suc-add, add-suc, le_of_suc-le-suc}
 use native.Mathlib.Omega.{arith}
 use lib.ListN.{length, drop, get_or}
-use lib.Seq.{drop-cons, drop-length}
 use lib.Dec.{eqb, ltb}
-use borrow.Author.Tests.{eqb-true, eqb-false, lt-ltb, le-ltb}
+use Rattle.std.specs.List.{position_or_len}
+use Rattle.ascii.proofs.Cases.{either}
+use borrow.Author.Tests.{eqb-true, eqb-false, lt-ltb, le-ltb, ltb-true, ltb-false}
 use Rattle.ascii.specs.Text.{same}
 use Rattle.keyword.specs.Names.{further, range, later, position}
 use Rattle.ascii.proofs.Same.{same_true, same_refl, same_false, same_root}
-
-module _ (n x : List ℕ) (xs : List (List ℕ)) where
-  pub position_here : same n x ≡ true → position n (x ∷ xs) ≡ Some 0
-  unfolding position
-  position_here h = rw h
-
-  pub position_past : same n x ≡ false → position n (x ∷ xs) ≡ later (position n xs)
-  unfolding position
-  position_past h = rw h
 
 -- a place is below the length, and the name stands there
 module _ (n : List ℕ) where
@@ -59,10 +51,6 @@ further_zero None = refl
 further_suc : (by : ℕ) (f : Option ℕ) → further (suc by) f ≡ later (further by f)
 further_suc by (Some k) = ap Some (suc-add by k)
 further_suc by None = refl
-
-further_later : (by : ℕ) (f : Option ℕ) → further by (later f) ≡ further (suc by) f
-further_later by (Some k) = ap Some (omega arith)
-further_later by None = refl
 
 later_or : (f g : Option ℕ) → later (or_else f g) ≡ or_else (later f) (later g)
 later_or (Some k) g = refl
@@ -153,24 +141,18 @@ module _ (f : ℕ → List ℕ) (n : ℕ) where
       value_step a count (eqb n a) refl (λ h e. h (inj a (omega arith) (omega arith) e)) p
       (λ r. position_value (suc a) count (λ k u v. inj k (omega arith) (omega arith)) r (omega arith))
 
--- a search by one test after the other: the first k names are passed
-module _ (n : List ℕ) (xs : List (List ℕ)) where
-  abbrev pub Passed : ℕ → Type 0
-  Passed k = position n xs ≡ further k (position n (drop k xs))
+-- the library's place of the first that passes a test, where the test is for the same name
+module _ {A : Type 0} (n : List ℕ) (test : A → Bool) (name : A → List ℕ) where
+  found_later : (t : Bool) (m l : ℕ) → ltb m l ≡ t → cond (ltb (1 + m) (suc l)) (Some (1 + m)) None ≡ later (cond t (Some m) None)
+  found_later true m l e = rw (lt-ltb (1 + m) (suc l) (omega (arith, ltb-true m l e))) (ap Some (omega arith))
+  found_later false m l e = rw (le-ltb (1 + m) (suc l) (omega (arith, ltb-false m l e)))
 
-  pub passed_none : Passed 0
-  passed_none = sym (further_zero (position n xs))
-
-  module _ (k : ℕ) (h : k < length xs) (p : Passed k) where
-    pub passed_more : same n (get_or xs k []) ≡ false → Passed (suc k)
-    passed_more t =
-        p ∙ ap (further k) (ap (position n) (drop-cons xs k [] h) ∙ position_past n (get_or xs k []) (drop (suc k) xs) t)
-        ∙ further_later k (position n (drop (suc k) xs))
-
-    pub passed_here : same n (get_or xs k []) ≡ true → position n xs ≡ Some k
-    passed_here t =
-        p ∙ ap (further k) (ap (position n) (drop-cons xs k [] h) ∙ position_here n (get_or xs k []) (drop (suc k) xs) t) ∙ ap Some (add-zero k)
-
-  pub passed_all : Passed (length xs) → position n xs ≡ None
+  pub position_found : (xs : List A) → map test xs ≡ map (λ (a : A). same n (name a)) xs
+      → cond (ltb (position_or_len test xs) (length xs)) (Some (position_or_len test xs)) None ≡ position n (map name xs)
   unfolding position
-  passed_all p = p ∙ ap (λ (l : List (List ℕ)). further (length xs) (position n l)) (drop-length xs)
+  position_found [] e = refl
+  position_found (x ∷ xs) e =
+      let t : test x ≡ same n (name x) = ap (λ (l : List Bool). get_or l 0 false) e in
+      either (test x)
+      (λ h. rw (h, sym t ∙ h, lt-ltb 0 (length (x ∷ xs)) (omega arith)))
+      (λ h. rw (h, sym t ∙ h) (found_later _ (position_or_len test xs) (length xs) refl ∙ ap later (position_found xs (ap (drop 1) e))))

@@ -1,9 +1,10 @@
 // The used names of a header and their places (docs/FORMAT.md, section 4).
 #![tactic(auto)]
 
-ghost use Rattle.std.specs.Prelude.{◌≡◌, cond, ◌+◌, ◌*◌, ◌<◌, ltb, length};
-ghost use mathlib.Core.List.{map, flatten};
-ghost use Rattle.keyword.specs.Names.{index_limit, column_slots, once_roots, roots, slot_names, once_names, position, further, single, numeral, range};
+ghost use Rattle.std.specs.Prelude.{◌≡◌, cond, ◌+◌, ◌*◌, ◌<◌, ltb, length, take};
+ghost use mathlib.Core.List.{map};
+ghost use Rattle.keyword.specs.Names.{index_limit, column_slots, once_roots, roots, slot_names, once_names};
+ghost use Rattle.keyword.specs.Names.{position, further, single, numeral, range};
 
 // Where a name stands: its slot, and its place among the names that must not stand twice (specs/Names).
 #[derive(Clone, Copy)]
@@ -20,7 +21,8 @@ pub const COLUMN_SLOTS: usize = 64;
 // How many digits such an n has at most.
 const INDEX_DIGITS: usize = 3;
 
-// The slots of the names that are not numbered by column, in the order of the list.
+// The slots of the names that are not numbered by column, in the order of the list. They are no enum, since they are
+// places of an array, and the numbered names have the places after them.
 pub const XTENSION: usize = 0;
 
 pub const BITPIX: usize = 1;
@@ -42,6 +44,24 @@ pub const THEAP: usize = 8;
 // How many these are.
 const SINGLE: usize = THEAP + 1;
 
+// Their names, each in the place of its slot.
+const SINGLE_NAMES: [&[u8]; SINGLE] = [
+    b"XTENSION",
+    b"BITPIX",
+    b"NAXIS",
+    b"NAXIS1",
+    b"NAXIS2",
+    b"PCOUNT",
+    b"GCOUNT",
+    b"TFIELDS",
+    b"THEAP",
+];
+
+// The roots of the numbered names, and how long each is.
+const ROOTS: [&[u8]; 2] = [b"TFORM", b"TTYPE"];
+
+const ROOT_BYTES: usize = 5;
+
 // The slots of TFORM1 and TTYPE1; those of n up to COLUMN_SLOTS follow.
 pub const TFORM1: usize = SINGLE;
 
@@ -59,76 +79,25 @@ pub const ONCE: usize = SINGLE + ONCE_ROOTS * INDEX_LIMIT;
 fn keyword_index(s: &[u8]) -> Option<usize>
     ensures { result ≡ position s.now (map numeral (range 1 index_limit)) }
 {
-    let n = s.len();
-    if n == 0 || INDEX_DIGITS < n {
+    if INDEX_DIGITS < s.len() || s.starts_with(b"0") {
         return None;
     }
-    if s[0] == b'0' {
-        return None;
-    }
-    let mut sum: usize = 0;
-    let mut i: usize = 0;
-    while i < n {
-        let b = s[i];
-        if b < b'0' || b'9' < b {
-            return None;
-        }
-        sum = sum * 10 + (b - b'0') as usize;
-        i += 1;
-    }
-    Some(sum - 1)
+    let n = ascii::digits::parse_number(s)?;
+    Some(n - 1)
 }
 
 // The place among the nine names that are not numbered by column.
 fn single_slot(name: &[u8]) -> Option<usize>
     ensures { result ≡ position name.now single }
 {
-    if ascii::same_bytes(name, b"XTENSION") {
-        return Some(XTENSION);
-    }
-    if ascii::same_bytes(name, b"BITPIX") {
-        return Some(BITPIX);
-    }
-    if ascii::same_bytes(name, b"NAXIS") {
-        return Some(NAXIS);
-    }
-    if ascii::same_bytes(name, b"NAXIS1") {
-        return Some(NAXIS1);
-    }
-    if ascii::same_bytes(name, b"NAXIS2") {
-        return Some(NAXIS2);
-    }
-    if ascii::same_bytes(name, b"PCOUNT") {
-        return Some(PCOUNT);
-    }
-    if ascii::same_bytes(name, b"GCOUNT") {
-        return Some(GCOUNT);
-    }
-    if ascii::same_bytes(name, b"TFIELDS") {
-        return Some(TFIELDS);
-    }
-    if ascii::same_bytes(name, b"THEAP") {
-        return Some(THEAP);
-    }
-    None
+    SINGLE_NAMES.iter().position(|single| *single == name)
 }
 
-// The place among the roots. `words` has them one after the other, five bytes each.
-fn root_of(words: &[u8], root: &[u8]) -> Option<usize>
-    requires { words.now ≡ flatten roots }
-    ensures { result ≡ position root.now roots }
+// The place among the roots of the one that a name begins with.
+fn root_of(name: &[u8]) -> Option<usize>
+    ensures { result ≡ position (take 5 name.now) roots }
 {
-    let count = words.len() / 5;
-    let mut r: usize = 0;
-    while r < count {
-        let start = r * 5;
-        let end = start + 5;
-        if ascii::same_bytes(root, &words[start..end]) {
-            return Some(r);
-        }
-        r += 1;
-    }
-    None
+    ROOTS.iter().position(|root| name.starts_with(*root))
 }
 
 // The slot of root r with n = k + 1.
@@ -170,13 +139,10 @@ pub fn locate(name: &[u8]) -> Places
     ensures slot { result.slot ≡ position name.now slot_names }
     ensures once { result.once ≡ position name.now once_names }
 {
-    if name.len() < 5 {
-        return single_places(name);
-    }
-    let Some(r) = root_of(b"TFORMTTYPE", &name[..5]) else {
+    let Some(r) = root_of(name) else {
         return single_places(name);
     };
-    let Some(k) = keyword_index(&name[5..]) else {
+    let Some(k) = keyword_index(&name[ROOT_BYTES..]) else {
         return Places {
             slot: None,
             once: None,

@@ -3,16 +3,15 @@
 use Rattle.std.specs.Prelude.{Option, Some, None}
 use Prim.Native.Nat.{ℕ, zero, suc, ◌+◌, ◌≤◌, ◌<◌}
 use mathlib.Core.Path.{◌≡◌, refl, sym, ◌∙◌, ap, subst}
-use mathlib.Core.Bool.{Bool, true, false, true≢false}
+use mathlib.Core.Bool.{Bool, true, false, cond, true≢false}
 use mathlib.Core.List.{List, [], ◌∷◌}
 use mathlib.Core.Logic.{◌⊎◌, inl, inr, ⊎_elim}
 use native.Mathlib.Nat.{add-zero}
 use native.Mathlib.Omega.{arith}
 use lib.Dec.{ltb}
-use lib.ListN.{length, get_or, drop, drop_of_length-le, get_or-eq_default}
-use lib.Seq.{drop-cons}
-use native.Mathlib.Numerals.{add-one}
-use borrow.Author.Tests.{ltb-true, ltb-false}
+use lib.ListN.{length, get_or, get_or-eq_default}
+use borrow.Author.Tests.{lt-ltb, le-ltb, ltb-true, ltb-false}
+use Rattle.std.specs.List.{position_or_len}
 use Rattle.ascii.proofs.Cases.{either}
 use Rattle.layout.specs.declared.Column.{Column}
 use Rattle.layout.specs.Layout.{no_column}
@@ -25,20 +24,29 @@ pub nothing_else : (f : Option ℕ) → ((c : ℕ) → f ≡ Some c → ⊥) →
 nothing_else None n = refl
 nothing_else (Some c) n = absurd (n c refl)
 
--- the search from column i on, as a loop goes
-module _ (test : Column → Bool) (cs : List Column) (i : ℕ) where
-  pub first_here : i < length cs → test (get_or cs i no_column) ≡ true → Some i ≡ first_column test i (drop i cs)
-  unfolding first_column
-  first_here p e = rw (drop-cons cs i no_column p, e)
+-- the library's place of the first that passes
+first_from : (test : Column → Bool) (i : ℕ) (cs : List Column)
+    → cond (ltb (position_or_len test cs) (length cs)) (Some (i + position_or_len test cs)) None ≡ first_column test i cs
+unfolding first_column
+first_from test i [] = refl
+first_from test i (c ∷ cs) =
+    either (test c)
+    (λ t. rw (t, lt-ltb 0 (length (c ∷ cs)) (omega arith), add-zero i))
+    (λ t. rw t (later (ltb (position_or_len test cs) (length cs)) refl ∙ first_from test (suc i) cs))
+  where
+    later : (t : Bool) → ltb (position_or_len test cs) (length cs) ≡ t
+        → cond (ltb (1 + position_or_len test cs) (suc (length cs))) (Some (i + (1 + position_or_len test cs))) None
+        ≡ cond (ltb (position_or_len test cs) (length cs)) (Some (suc i + position_or_len test cs)) None
+    later true e =
+        rw (e, lt-ltb (1 + position_or_len test cs) (suc (length cs)) (omega (arith, ltb-true (position_or_len test cs) (length cs) e)))
+        (ap Some (omega arith))
+    later false e =
+        rw (e, le-ltb (1 + position_or_len test cs) (suc (length cs)) (omega (arith, ltb-false (position_or_len test cs) (length cs) e)))
 
-  pub first_later : i < length cs → test (get_or cs i no_column) ≡ false
-      → first_column test i (drop i cs) ≡ first_column test (i + 1) (drop (i + 1) cs)
-  unfolding first_column
-  first_later p e = rw (add-one i, drop-cons cs i no_column p, e)
-
-  pub first_over : length cs ≤ i → None ≡ first_column test i (drop i cs)
-  unfolding first_column
-  first_over p = rw (drop_of_length-le cs {i = i} p)
+pub first_position : (test : Column → Bool) (cs : List Column)
+    → cond (ltb (position_or_len test cs) (length cs)) (Some (position_or_len test cs)) None ≡ first_column test 0 cs
+first_position test cs =
+    ap (λ (n : ℕ). cond (ltb (position_or_len test cs) (length cs)) (Some n) None) (omega arith) ∙ first_from test 0 cs
 
 -- a search for the first column that passes a test, which no column that is not there does
 module _ (test : Column → Bool) (none : test no_column ≡ false) where

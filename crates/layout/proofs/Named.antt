@@ -1,7 +1,9 @@
 -- The part of a header that is a name, and the columns of a layout that have names.
 -- Assumes nothing.
-use Rattle.std.specs.Prelude.{Some, Option, None}
-use mathlib.Core.Path.{◌≡◌, refl}
+use Rattle.std.specs.Prelude.{Option, Some, None, MatchOption, unwrap_or}
+use denote.Ref.{Bor}
+use mathlib.Core.Logic.{◌⊎◌, ⊎_elim}
+use mathlib.Core.Path.{◌≡◌, refl, ap, ◌∙◌}
 use mathlib.Core.Bool.{true}
 use mathlib.Core.List.{List, []}
 use Prim.Native.Nat.{ℕ, ◌+◌, ◌-◌, ◌≤◌, ◌<◌}
@@ -9,8 +11,9 @@ use native.Mathlib.Omega.{arith}
 use lib.Dec.{ltb}
 use lib.ListN.{length, get_or, take, drop, get_or-eq_default, length-take}
 use lib.Seq.{get_or-take}
-use borrow.Author.Tests.{le-leb, lt-leb, lt-ltb, le-ltb}
+use borrow.Author.Tests.{le-leb, lt-leb, lt-ltb, le-ltb, ltb-true, ltb-false}
 use Rattle.ascii.proofs.Cases.{either}
+use Rattle.layout.specs.declared.Column.{Column}
 use Rattle.layout.specs.declared.Name.{Name}
 use Rattle.layout.specs.declared.BinTable.{BinTable}
 use Rattle.layout.specs.Layout.{no_column, columns_of}
@@ -29,6 +32,13 @@ module _ (h : List ℕ) where
   pub part_whole : (a n : ℕ) → a + n ≤ length h → take (a + n - a) (drop a h) ≡ part_of h (Some (record { start = a; len = n }))
   unfolding part_of
   part_whole a n l = let e : a + n - a ≡ n = omega arith in rw (e, le-leb (a + n) (length h) l)
+
+  -- what `get` gives, or nothing
+  pub part_got : (a n : ℕ) (r : Option (Bor (List ℕ))) (nothing : Bor (List ℕ)) → nothing.now ≡ []
+      → MatchOption r ((a + n < a) ⊎ (length h < a + n)) (λ x. (a ≤ a + n) × (a + n ≤ length h) × (x.now ≡ take (a + n - a) (drop a h)) × (length x.now + a ≡ a + n))
+      → (unwrap_or r nothing).now ≡ part_of h (Some (record { start = a; len = n }))
+  part_got a n None nothing e m = e ∙ ⊎_elim (λ p. absurd (omega arith)) (λ p. part_short a n p) m
+  part_got a n (Some x) nothing e m = m.2 ∙ part_whole a n m.1
 
   -- a name that is reached is its part
   pub part_in_header : (s : Option Name) → in_header h s ≡ true → part_of h s ≡ stretch_of h s
@@ -50,6 +60,19 @@ module _ (h : List ℕ) where
 
 pub column_at : (l : BinTable) (i : ℕ) → i < l.tfields → get_or (columns_of l) i no_column ≡ get_or l.columns i no_column
 column_at l i p = get_or-take l.tfields l.columns i no_column p
+
+-- the name of one of a layout's columns, and of a column that it has not
+module _ (h : List ℕ) (l : BinTable) (c : ℕ) where
+  pub name_found : (x : Column) → c < length (columns_of l) → x ≡ get_or (columns_of l) c no_column → part_of h x.name ≡ column_name h l c
+  name_found x p e =
+      let inside : c < l.tfields = omega (arith, p, length-take l.tfields l.columns) in
+      ap (λ (y : Column). part_of h y.name) (e ∙ column_at l c inside) ∙ name_at h l c inside
+
+  pub name_missing : length (columns_of l) ≤ c → [] ≡ column_name h l c
+  name_missing p =
+      either (ltb c l.tfields)
+      (λ t. name_past h l c (omega (arith, p, length-take l.tfields l.columns, ltb-true c l.tfields t)))
+      (λ t. name_over h l c (ltb-false c l.tfields t))
 
 -- a column that is found is one of the layout's
 pub found_inside : (h : List ℕ) (l : BinTable) (sought : List ℕ) (c : ℕ) → find_name h l sought ≡ Some c → (c < l.tfields) × (c < length l.columns)

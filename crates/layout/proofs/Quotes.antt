@@ -1,55 +1,30 @@
 -- A name compared byte by byte, two quotes taken as one.
 -- Assumes nothing.
 use mathlib.Core.Path.{◌≡◌, refl, sym, ◌∙◌, ap}
-use mathlib.Core.Bool.{true, false, ◌&&◌, and-false, cond}
+use mathlib.Core.Bool.{true, false, ◌&&◌, and-true, and-false, cond, false≢true}
 use mathlib.Core.List.{List, [], ◌∷◌}
 use Prim.Native.Nat.{ℕ, suc, ◌+◌, ◌≤◌, ◌<◌}
 use native.Mathlib.Numerals.{add-one, lt_of_le_of_ne}
 use native.Mathlib.Omega.{arith}
-use lib.Dec.{eqb, ltb}
+use lib.Dec.{eqb, eqb-suc-zero}
+use Rattle.std.specs.Prelude.{Option, Some, None, MatchOption, unwrap_or}
+use denote.Ref.{Bor}
 use lib.Pointwise.{pointwise}
-use lib.ListN.{length, get_or, drop, drop_of_length-le, get_or-eq_default}
-use lib.Seq.{drop-cons, drop-drop, get_or-drop}
-use borrow.Author.Tests.{ne_eqb, eqb-true, eqb-false, ltb-true, ltb-false}
-use Rattle.ascii.proofs.Cases.{either, by_test, both}
+use lib.ListN.{length, get_or, take, drop, drop_of_length-le}
+use lib.Seq.{drop-cons}
+use borrow.Author.Tests.{eqb-true, eqb-false}
+use Rattle.ascii.proofs.Cases.{either}
 use Rattle.layout.specs.Names.{undoubled, alike}
 use Rattle.layout.specs.EitherCase.{doubled}
 
--- how many bytes count as the one at i
-abbrev pub byte_len : List ℕ → ℕ → ℕ
-byte_len p i = cond (eqb (get_or p i 0) 39 && eqb (get_or p (i + 1) 0) 39) 2 1
-
-pub len_other : (p : List ℕ) (i : ℕ) → (get_or p i 0 ≡ 39 → ⊥) → 1 ≡ byte_len p i
-len_other p i n = rw (ne_eqb (get_or p i 0) 39 n)
-
-pub len_last : (p : List ℕ) (i : ℕ) → i + 1 ≡ length p → 1 ≡ byte_len p i
-len_last p i e = rw (get_or-eq_default {A = ℕ} p 0 {n = i + 1} (omega (arith, e)), and-false (eqb (get_or p i 0) 39))
-
-pub len_lone : (p : List ℕ) (i : ℕ) → (get_or p (i + 1) 0 ≡ 39 → ⊥) → 1 ≡ byte_len p i
-len_lone p i n = rw (ne_eqb (get_or p (i + 1) 0) 39 n, and-false (eqb (get_or p i 0) 39))
-
-pub len_two : (p : List ℕ) (i : ℕ) → get_or p i 0 ≡ 39 → get_or p (i + 1) 0 ≡ 39 → 2 ≡ byte_len p i
-len_two p i e f = rw (e, f)
-
--- the byte at i is the next one, and it ends within the name
+-- the byte in front is the next one
 first_byte : (b : ℕ) (bs : List ℕ) → undoubled (b ∷ bs) ≡ b ∷ undoubled (drop (cond (eqb b 39 && eqb (get_or bs 0 0) 39) 2 1) (b ∷ bs))
 unfolding undoubled
 first_byte b [] = rw (and-false (eqb b 39))
 first_byte b (c ∷ cs) = either (eqb b 39 && eqb c 39) (λ e. rw e) (λ e. rw e)
 
-next_byte : (i : ℕ) (p : List ℕ) → get_or (drop (suc i) p) 0 0 ≡ get_or p (i + 1) 0
-next_byte i p = get_or-drop (suc i) p 0 0 ∙ ap (λ (n : ℕ). get_or p n 0) (omega arith)
-
-pub undoubled_next : (p : List ℕ) (i : ℕ) → i < length p → undoubled (drop i p) ≡ get_or p i 0 ∷ undoubled (drop (i + byte_len p i) p)
-undoubled_next p i h =
-    let b = get_or p i 0 in
-    ap undoubled (drop-cons p i 0 h) ∙ first_byte b (drop (suc i) p)
-    ∙ ap (λ (l : List ℕ). b ∷ undoubled l)
-    (ap (λ (x : ℕ). drop (cond (eqb b 39 && eqb x 39) 2 1) (b ∷ drop (suc i) p)) (next_byte i p)
-    ∙ ap (drop (byte_len p i)) (sym (drop-cons p i 0 h)) ∙ drop-drop (byte_len p i) i p)
-
 -- a text that a header writes with each quote as two is that text
-undoubled_other : (b : ℕ) (t : List ℕ) → eqb b 39 ≡ false → undoubled (b ∷ t) ≡ b ∷ undoubled t
+pub undoubled_other : (b : ℕ) (t : List ℕ) → eqb b 39 ≡ false → undoubled (b ∷ t) ≡ b ∷ undoubled t
 unfolding undoubled
 undoubled_other b [] e = refl
 undoubled_other b (c ∷ cs) e = rw e refl
@@ -62,20 +37,19 @@ undoubled_doubled (b ∷ bs) =
     (λ e. rw (e, undoubled_doubled bs, eqb-true b 39 e) refl)
     (λ e. rw e (undoubled_other b (doubled bs) e ∙ ap (λ (t : List ℕ). b ∷ t) (undoubled_doubled bs)))
 
-pub undoubled_end : (p : List ℕ) (i : ℕ) → length p ≤ i → undoubled (drop i p) ≡ []
+-- after a quote: another one, which counts with it, or none
+pub undoubled_past : (b : ℕ) (t : List ℕ) (r : Option (Bor (List ℕ))) (whole : Bor (List ℕ)) → whole.now ≡ t → b ≡ 39
+    → MatchOption r (pointwise eqb (take 1 t) (39 ∷ []) ≡ false) (λ x. (pointwise eqb (take 1 t) (39 ∷ []) ≡ true) × (x.now ≡ drop 1 t) × (length x.now + 1 ≡ length t))
+    → undoubled (b ∷ t) ≡ b ∷ undoubled (unwrap_or r whole).now
 unfolding undoubled
-undoubled_end p i h = rw (drop_of_length-le p {i = i} h)
-
-pub len_inside : (p : List ℕ) (i : ℕ) → i < length p → i + byte_len p i ≤ length p
-len_inside p i h =
-    by_test (λ (n : ℕ). i + n ≤ length p) (eqb (get_or p i 0) 39 && eqb (get_or p (i + 1) 0) 39)
-    (λ e. either (ltb (i + 1) (length p)) (λ t. omega (arith, ltb-true (i + 1) (length p) t))
-    (λ t. absurd (let q = eqb-true (get_or p (i + 1) 0) 39 (both (eqb (get_or p i 0) 39) (eqb (get_or p (i + 1) 0) 39) e).1 in
-    omega (arith, q, get_or-eq_default {A = ℕ} p 0 {n = i + 1} (ltb-false (i + 1) (length p) t)))))
-    (λ e. omega arith)
-
-pub len_least : (p : List ℕ) (i : ℕ) → 1 ≤ byte_len p i
-len_least p i = by_test (λ (n : ℕ). 1 ≤ n) (eqb (get_or p i 0) 39 && eqb (get_or p (i + 1) 0) 39) (λ e. omega arith) (λ e. omega arith)
+undoubled_past b [] None whole e q m = rw e
+undoubled_past b (c ∷ cs) None whole e q m =
+    let other : eqb c 39 ≡ false = sym (and-true (eqb c 39)) ∙ m in
+    rw (e, other, and-false (eqb b 39))
+undoubled_past b [] (Some x) whole e q m = absurd (false≢true m.0)
+undoubled_past b (c ∷ cs) (Some x) whole e q m =
+    let quote : eqb c 39 ≡ true = sym (and-true (eqb c 39)) ∙ m.0 in
+    rw (q, quote, m.1)
 
 -- one byte of the name sought
 module _ (x : ℕ) (xs s : List ℕ) (j : ℕ) where
@@ -93,3 +67,24 @@ sought_end s j h =
     either (eqb j (length s))
     (λ e. rw (e, drop_of_length-le s {i = j} (omega (arith, eqb-true j (length s) e))))
     (λ e. rw (e, drop-cons s j 0 (lt_of_le_of_ne h (eqb-false j (length s) e))))
+
+-- no byte of the name in the header is left
+pub name_short : (r s : List ℕ) (j : ℕ) → length r ≡ 0 → j < length s → pointwise alike (undoubled r) (drop j s) ≡ false
+unfolding undoubled
+name_short [] s j e h = rw (drop-cons s j 0 h)
+name_short (b ∷ bs) s j e h = absurd (omega arith)
+
+-- none of the one sought
+pub name_over : (r s : List ℕ) (j : ℕ) → length s ≤ j → pointwise alike (undoubled r) (drop j s) ≡ eqb (length r) 0
+unfolding undoubled
+name_over [] s j h = rw (drop_of_length-le s {i = j} h)
+name_over (b ∷ []) s j h = rw (drop_of_length-le s {i = j} h)
+name_over (b ∷ c ∷ cs) s j h =
+    rw (drop_of_length-le s {i = j} h, eqb-suc-zero (suc (length cs)))
+    (either (eqb b 39 && eqb c 39) (λ e. rw e) (λ e. rw e))
+
+-- a byte that is not like the one in its place
+pub name_other : (b : ℕ) (after s : List ℕ) (j : ℕ) → j < length s → alike b (get_or s j 0) ≡ false
+    → pointwise alike (undoubled (b ∷ after)) (drop j s) ≡ false
+name_other b after s j h e =
+    ap (λ (l : List ℕ). pointwise alike l (drop j s)) (first_byte b after) ∙ sought_other b _ s j h e

@@ -5,7 +5,7 @@ mod limits;
 mod ttype;
 
 ghost use Rattle.std.specs.Prelude.{◌≡◌};
-ghost use Rattle.layout.specs.Layout.{layout_ok};
+ghost use Rattle.layout.specs.Layout.{columns_of, layout_ok};
 ghost use Rattle.layout.specs.Names.{column_name, find_name};
 
 use tform::{TFormType, VariableArrayTy};
@@ -20,7 +20,8 @@ pub const PCOUNT_LIMIT: u64 = 2147483647;
 // Each column has a slot for each of its names.
 pub const TFIELDS_LIMIT: usize = keyword::COLUMN_SLOTS;
 
-// Where a column's name stands in the header, between the quotes, trailing spaces off.
+// Where a column's name stands in the header, between the quotes, trailing spaces off. No slice, since a layout is a
+// plain value that outlives the header.
 #[derive(Clone, Copy)]
 pub struct Name {
     pub start: u32,
@@ -36,7 +37,7 @@ pub struct Column {
     pub name: Option<Name>,
 }
 
-// The layout of a table. Its columns are the first `tfields` of `columns`.
+// The layout of a table. Its columns are the first `tfields` of `columns`, since the library has no heap.
 #[derive(Clone, Copy)]
 pub struct BinTable {
     pub naxis1: u64,
@@ -65,29 +66,24 @@ pub const EMPTY_LAYOUT: BinTable = BinTable {
 };
 
 // Whether a layout, which anybody can make, keeps every limit and sum.
+#[tactic(auto, unfolding(crate::specs::Layout::layout_ok))]
 pub fn layout_ok(layout: BinTable) -> bool
     ensures { result ≡ layout_ok layout }
 {
-    if NAXIS1_LIMIT < layout.naxis1 {
-        return false;
-    }
-    if NAXIS2_LIMIT < layout.naxis2 {
-        return false;
-    }
-    if PCOUNT_LIMIT < layout.pcount {
-        return false;
-    }
-    if TFIELDS_LIMIT < layout.tfields {
-        return false;
-    }
-    let main = layout.naxis1 * layout.naxis2;
-    if layout.theap < main {
-        return false;
-    }
-    if main + layout.pcount < layout.theap {
-        return false;
-    }
-    limits::columns_ok(layout)
+    layout.naxis1 <= NAXIS1_LIMIT
+        && layout.naxis2 <= NAXIS2_LIMIT
+        && layout.pcount <= PCOUNT_LIMIT
+        && layout.tfields <= TFIELDS_LIMIT
+        && layout.naxis1 * layout.naxis2 <= layout.theap
+        && layout.theap <= layout.naxis1 * layout.naxis2 + layout.pcount
+        && limits::columns_ok(layout)
+}
+
+// The columns that a layout has: `tfields`, or all where that is more.
+fn columns(layout: &BinTable) -> &[Column]
+    ensures { result.now ≡ columns_of layout.now }
+{
+    &layout.columns[..layout.tfields.min(TFIELDS_LIMIT)]
 }
 
 // The name of a column, as a part of the header; empty if there is no such column or name, or the header is too
@@ -95,30 +91,17 @@ pub fn layout_ok(layout: BinTable) -> bool
 pub fn column_name(header: &[u8], layout: BinTable, column: usize) -> &[u8]
     ensures { result.now ≡ column_name header.now layout column }
 {
-    if layout.tfields <= column {
-        return &header[0..0];
+    match columns(&layout).get(column) {
+        Some(found) => ttype::part(header, found.name),
+        None => &[],
     }
-    if TFIELDS_LIMIT <= column {
-        return &header[0..0];
-    }
-    let found = layout.columns[column];
-    let name = found.name;
-    ttype::part(header, name)
 }
 
 // The first column that has this name, in either case, two quotes of the header counted as one.
 pub fn find_field_by_ttype(header: &[u8], layout: BinTable, name: &[u8]) -> Option<usize>
     ensures { result ≡ find_name header.now layout name.now }
 {
-    let count = ttype::column_count(layout.tfields);
-    let mut i: usize = 0;
-    while i < count {
-        let column = layout.columns[i];
-        let own = column.name;
-        if ttype::has_name(header, own, name) {
-            return Some(i);
-        }
-        i += 1;
-    }
-    None
+    columns(&layout)
+        .iter()
+        .position(|column| ttype::has_name(header, column.name, name))
 }

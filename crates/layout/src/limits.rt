@@ -4,24 +4,21 @@ ghost use Rattle.layout.specs.Layout.{columns_ok, columns_of};
 
 use super::BinTable;
 
-// Whether each count is within its limit, each column starts where the one before ends, and the last ends with the row.
+// Whether each count is within its limit, each column starts where the one before ends, and the last ends with the
+// row.
 pub fn columns_ok(layout: BinTable) -> bool
     requires { layout.tfields ≤ 64 }
     ensures { result ≡ columns_ok layout.naxis1 0 (columns_of layout) }
 {
     let mut at: u64 = 0;
-    let mut i: usize = 0;
-    while i < layout.tfields {
-        let column = layout.columns[i];
-        let form = column.form;
-        if !tform::count_ok(form, column.count) {
+    for column in &layout.columns[..layout.tfields] {
+        if !tform::count_ok(column.form, column.count) {
             return false;
         }
         if column.start != at {
             return false;
         }
-        at += tform::num_bytes_field(form, column.count);
-        i += 1;
+        at += tform::num_bytes_field(column.form, column.count);
     }
     at == layout.naxis1
 }

@@ -1,15 +1,14 @@
 -- The lengths of signed numbers and of bits as text.
 -- Assumes nothing.
-use Prim.Native.Nat.{ℕ, zero, suc, ◌+◌, ◌/◌, ◌≤◌}
-use mathlib.Core.Path.{◌≡◌, refl}
-use mathlib.Core.List.{List}
+use Prim.Native.Nat.{ℕ, zero, suc, ◌-◌, ◌/◌, ◌%◌, ◌≤◌, ◌<◌}
+use mathlib.Core.Path.{◌≡◌, refl, sym, ap}
+use mathlib.Core.List.{List, [], ◌∷◌, ◌++◌}
+use Rattle.std.proofs.Common.{append-nil}
 use native.Mathlib.Omega.{arith}
 use lib.ListN.{length, length-append}
 use lib.IntN.{ℤ, pos, negsuc}
-use Rattle.ascii.specs.Buffer.{put_in}
 use Rattle.ascii.proofs.Lengths.{decimal_length}
-use Rattle.ascii.proofs.Chain.{Put}
-use Rattle.listing.specs.Text.{signed_text, hex_text}
+use Rattle.listing.specs.Text.{signed_text, hex_text, hex_digit}
 
 pub signed_length : (z : ℤ) → length (signed_text z) ≤ 21
 signed_length (pos n) = omega (arith, decimal_length n)
@@ -20,6 +19,13 @@ unfolding hex_text
 hex_length zero n = refl
 hex_length (suc k) n = simp length-append (omega (arith, hex_length k (n / 16)))
 
--- a text in hexadecimal is as long as its width
-pub hexed : (o : List ℕ) (at k n : ℕ) {p : ℕ} {o' : List ℕ} → (p ≡ at + k) × (o' ≡ put_in o at (hex_text k n)) → Put o at (hex_text k n) p o'
-hexed o at k n (e, f) = (omega (arith, e, hex_length k n), f)
+-- a digit more, and none
+pub hex_more : (k n : ℕ) → 0 < k → hex_text (k - 1) (n / 16) ++ (hex_digit (n % 16) ∷ []) ≡ hex_text k n
+unfolding hex_text
+hex_more zero n h = absurd (omega arith)
+hex_more (suc k) n h = let e : suc k - 1 ≡ k = omega arith in ap (λ (j : ℕ). hex_text j (n / 16) ++ (hex_digit (n % 16) ∷ [])) e
+
+pub hex_none : (w : List ℕ) (k n : ℕ) → k ≤ 0 → w ≡ w ++ hex_text k n
+unfolding hex_text
+hex_none w zero n h = sym (append-nil w)
+hex_none w (suc k) n h = absurd (omega arith)

@@ -1,4 +1,3 @@
 pub mod Lengths
-pub mod Turns
-pub mod Signs
 pub mod Short
+pub mod Written

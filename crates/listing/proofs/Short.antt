@@ -2,8 +2,8 @@
 -- Assumes nothing.
 use Rattle.std.specs.Prelude.{Option, None, Some}
 use Prim.Native.Nat.{ℕ, ◌+◌, ◌≤◌, ◌<◌}
-use mathlib.Core.Path.{◌≡◌}
-use mathlib.Core.List.{List, [], ◌∷◌}
+use mathlib.Core.Path.{◌≡◌, ap}
+use mathlib.Core.List.{List, [], ◌∷◌, ◌++◌}
 use native.Mathlib.Omega.{arith}
 use lib.Dec.{eqb, ltb}
 use lib.ListN.{length, length-append, length-take, length-drop}
@@ -55,6 +55,9 @@ value_length (D.ComplexFloat v b w d) = two_hex 8 b d (omega arith)
 value_length (D.ComplexDouble v b w d) = two_hex 16 b d (omega arith)
 value_length (D.VariableLengthArray32 n o) = two_decimals n o
 value_length (D.VariableLengthArray64 n o) = two_decimals n o
+
+pub value_put : (s w : List ℕ) (v : DataValue) → s ≡ w ++ value_text v → length s ≤ length w + 41
+value_put s w v e = omega (arith, ap length e, length-append w (value_text v), value_length v)
 
 -- ---- lines
 

@@ -1,54 +1,42 @@
-// Signed numbers and bits as digits in the lent buffer.
-ghost use Rattle.std.specs.Prelude.{◌≡◌, ◌+◌, ◌≤◌, ◌<◌, length, nat_abs};
+// Signed numbers and bits as digits.
+ghost use Rattle.std.specs.Prelude.{◌≡◌, ◌+◌, ◌≤◌, ◌<◌, ◌++◌, length};
 ghost use Rattle.listing.specs.Text.{signed_text, hex_text, hex_digit};
-ghost use Rattle.ascii.specs.Buffer.{put_in};
 
-// A negative number is its magnitude with a minus sign before it.
-pub fn put_signed(out: &mut [u8], at: usize, n: i64) -> usize
-    requires { at + 21 ≤ length out.old }
-    ensures place { result ≡ at + length (signed_text n) }
-    ensures buffer { out.new ≡ put_in out.old at (signed_text n) }
-{
-    if n < 0 {
-        out[at] = 45;
-        ascii::digits::put_decimal(out, at + 1, magnitude(n))
-    } else {
-        ascii::digits::put_decimal(out, at, magnitude(n))
+use crate::writer::Writer;
+
+impl Writer {
+    // A negative number is its magnitude with a minus sign before it.
+    pub fn put_signed(&mut self, n: i64)
+        requires { length self.old + 21 ≤ 130 }
+        ensures { self.new ≡ self.old ++ signed_text n }
+    {
+        if n < 0 {
+            self.put(b"-");
+        }
+        self.put_number(n.unsigned_abs());
+    }
+
+    // The last digits of a number, as many as the width says, with zeros in front of a shorter one.
+    #[tactic(auto, using(crate::proofs::Written::pieces, crate::proofs::Lengths::hex_more, crate::proofs::Lengths::hex_none))]
+    pub fn put_hex(&mut self, n: u64, width: u8)
+        requires { length self.old + width ≤ 130 }
+        ensures text { self.new ≡ self.old ++ hex_text width n }
+        ensures len { length self.new ≡ length self.old + width }
+    {
+        if 0 < width {
+            self.put_hex(n / 16, width - 1);
+            self.put(&[hex_digit(n % 16)]);
+        }
     }
 }
 
-// The lowest number has no opposite, so a negative one is taken from -1, which leaves one less than its magnitude.
-fn magnitude(n: i64) -> u64
-    ensures { result ≡ nat_abs n }
-{
-    if n >= 0 {
-        n as u64
-    } else {
-        ((-1 - n) as u64) + 1
-    }
-}
-
-// The last digits of a number, as many as the width says, with zeros in front of a shorter one.
-pub fn put_hex(out: &mut [u8], at: usize, n: u64, width: usize) -> usize
-    requires { (width ≤ 16) × (at + 16 ≤ length out.old) }
-    ensures place { result ≡ at + width }
-    ensures buffer { out.new ≡ put_in out.old at (hex_text width n) }
-{
-    let mut digits = [0u8; 16];
-    let mut i = width;
-    let mut rest = n;
-    while 0 < i {
-        i -= 1;
-        digits[i] = hex_digit(rest % 16);
-        rest = rest / 16;
-    }
-    ascii::buffer::put(out, at, &digits[..width])
-}
-
-// 0 to 9, then a to f.
+// 0 to 9, then a to f. `char::from_digit` gives an Option of a char, so that it is no shorter.
 fn hex_digit(d: u64) -> u8
     requires { d < 16 }
     ensures { result ≡ hex_digit d }
 {
-    if d < 10 { 48 + d as u8 } else { 87 + d as u8 }
+    match d as u8 {
+        d if d < 10 => b'0' + d,
+        d => b'a' + (d - 10),
+    }
 }

@@ -5,6 +5,7 @@ mod digits;
 mod lines;
 mod values;
 mod words;
+pub mod writer;
 
 ghost use Rattle.std.specs.Prelude.{◌≡◌};
 ghost use Rattle.listing.specs.Lines.{line_text};
@@ -15,8 +16,8 @@ use layout::BinTable;
 use refusal::Refusal;
 use walk::TableData;
 
-// A line. What it says of the table and its columns stands in the layout and the header, which are lent when it is
-// written.
+// A line, and a refusal is printed as one. What it says of the table and its columns stands in the layout and the
+// header, which are lent when it is written.
 #[derive(Clone, Copy)]
 pub enum Line {
     Table,
@@ -46,15 +47,15 @@ pub fn put_line(
     ensures buffer { out.new ≡ written out.old at (line_text header.now layout line) }
 {
     match line {
-        Line::Table => lines::table_line(out, at, layout),
+        Line::Table => lines::table_line(layout).put_to(out, at),
         Line::Column(c) => lines::column_line(out, at, header, layout, c),
-        Line::Cell(cell) => lines::cell_line(out, at, cell),
-        Line::End(cells) => lines::number_line(out, at, b"end", cells),
-        Line::Refused(refusal) => lines::refused_line(out, at, refusal),
-        Line::Row(cells) => lines::number_line(out, at, b"row", cells),
-        Line::Seek(row) => lines::number_line(out, at, b"seek", row as u64),
+        Line::Cell(cell) => lines::cell_line(cell).put_to(out, at),
+        Line::End(cells) => lines::number_line(b"end", cells).put_to(out, at),
+        Line::Refused(refusal) => lines::refused_line(refusal).put_to(out, at),
+        Line::Row(cells) => lines::number_line(b"row", cells).put_to(out, at),
+        Line::Seek(row) => lines::number_line(b"seek", row as u64).put_to(out, at),
         Line::AtEnd => ascii::buffer::put_text(out, at, b"end\n"),
-        Line::At(cursor) => lines::at_line(out, at, cursor),
-        Line::BadLine(number) => lines::number_line(out, at, b"bad line", number as u64),
+        Line::At(cursor) => lines::at_line(cursor).put_to(out, at),
+        Line::BadLine(number) => lines::number_line(b"bad line", number as u64).put_to(out, at),
     }
 }

@@ -1,4 +1,4 @@
-// Each line, made in an array and then copied to the lent buffer, where it has room for all of it.
+// Each line, put together and then copied to the lent buffer, where it has room for all of it.
 ghost use Rattle.std.specs.Prelude.{◌≡◌, [], ◌∷◌, ◌++◌, ◌≤◌, length};
 ghost use Rattle.ascii.specs.Text.{bytes};
 ghost use Rattle.tform.specs.Width.{form_letter};
@@ -8,108 +8,100 @@ ghost use Rattle.ascii.specs.Buffer.{written, written_to};
 ghost use Rattle.ascii.specs.Number.{decimal_text};
 ghost use Rattle.listing.specs.Lines.{line, table_line, column_line, cell_line, refused_line, at_line};
 
-use crate::{values, words};
+use crate::writer::Writer;
 use cell::Cell;
-use layout::{BinTable, Column, TFIELDS_LIMIT};
+use layout::{BinTable, Column, NO_COLUMN};
 use refusal::Refusal;
-use tform::{TFormType, VariableArrayTy};
 use walk::TableData;
 
 // A line of a word and a number.
-pub fn number_line(out: &mut [u8], at: usize, word: &[u8], number: u64) -> Option<usize>
+#[tactic(auto, using(crate::proofs::Written::pieces), unfolding(ascii::specs::Text::bytes, crate::specs::Lines::line))]
+pub fn number_line(word: &[u8], number: u64) -> Writer
     requires { length word.now ≤ 100 }
-    ensures to { result ≡ written_to out.old at (line (word.now ∷ decimal_text number ∷ [])) }
-    ensures buffer { out.new ≡ written out.old at (line (word.now ∷ decimal_text number ∷ [])) }
+    ensures { result ≡ line (word.now ∷ decimal_text number ∷ []) }
 {
-    let mut text = [0u8; 128];
-    let n = words::put_count(&mut text, 0, word, number, 10);
-    ascii::buffer::put_text(out, at, &text[..n])
+    let mut line = Writer::new();
+    line.word(word, b' ');
+    line.number(number, b'\n');
+    line
 }
 
-pub fn refused_line(out: &mut [u8], at: usize, refusal: Refusal) -> Option<usize>
-    ensures to { result ≡ written_to out.old at (refused_line (number_of refusal) (place_of refusal)) }
-    ensures buffer { out.new ≡ written out.old at (refused_line (number_of refusal) (place_of refusal)) }
+#[tactic(auto, using(crate::proofs::Written::pieces), unfolding(ascii::specs::Text::bytes, crate::specs::Lines::line, crate::specs::Lines::refused_line))]
+pub fn refused_line(refusal: Refusal) -> Writer
+    ensures { result ≡ refused_line (number_of refusal) (place_of refusal) }
 {
-    let mut text = [0u8; 128];
-    let place = words::put_count(&mut text, 0, b"refused", refusal::number(refusal), 32);
-    let n = words::put_number(&mut text, place, refusal::place(refusal), 10);
-    ascii::buffer::put_text(out, at, &text[..n])
+    let mut line = Writer::new();
+    line.word(b"refused", b' ');
+    line.number(refusal::number(refusal), b' ');
+    line.number(refusal::place(refusal), b'\n');
+    line
 }
 
-pub fn at_line(out: &mut [u8], at: usize, cursor: TableData) -> Option<usize>
-    ensures to { result ≡ written_to out.old at (at_line cursor) }
-    ensures buffer { out.new ≡ written out.old at (at_line cursor) }
+#[tactic(auto, using(crate::proofs::Written::pieces), unfolding(ascii::specs::Text::bytes, crate::specs::Lines::line, crate::specs::Lines::at_line))]
+pub fn at_line(cursor: TableData) -> Writer
+    ensures { result ≡ at_line cursor }
 {
-    let mut text = [0u8; 128];
-    let passed = words::put_count(&mut text, 0, b"at", cursor.row, 32);
-    let count = words::put_number(&mut text, passed, cursor.passed, 32);
-    let n = words::put_number(&mut text, count, cursor.count as u64, 10);
-    ascii::buffer::put_text(out, at, &text[..n])
+    let mut line = Writer::new();
+    line.word(b"at", b' ');
+    line.number(cursor.row, b' ');
+    line.number(cursor.passed, b' ');
+    line.number(cursor.count as u64, b'\n');
+    line
 }
 
-pub fn cell_line(out: &mut [u8], at: usize, cell: Cell) -> Option<usize>
-    ensures to { result ≡ written_to out.old at (cell_line cell) }
-    ensures buffer { out.new ≡ written out.old at (cell_line cell) }
+#[tactic(auto, using(crate::proofs::Written::pieces), unfolding(ascii::specs::Text::bytes, crate::specs::Lines::line, crate::specs::Lines::cell_line))]
+pub fn cell_line(cell: Cell) -> Writer
+    ensures { result ≡ cell_line cell }
 {
-    let value = cell.value;
-    let mut text = [0u8; 128];
-    let column = words::put_count(&mut text, 0, b"cell", cell.row, 32);
-    let idx = words::put_number(&mut text, column, cell.column as u64, 32);
-    let next = words::put_number(&mut text, idx, cell.idx, 32);
-    let feed = values::put_value(&mut text, next, value);
-    let whole = words::put_byte(&mut text, feed, 10);
-    ascii::buffer::put_text(out, at, &text[..whole])
+    let mut line = Writer::new();
+    line.word(b"cell", b' ');
+    line.number(cell.row, b' ');
+    line.number(cell.column as u64, b' ');
+    line.number(cell.idx, b' ');
+    line.put_value(cell.value);
+    line.put(b"\n");
+    line
 }
 
-pub fn table_line(out: &mut [u8], at: usize, layout: BinTable) -> Option<usize>
-    ensures to { result ≡ written_to out.old at (table_line layout) }
-    ensures buffer { out.new ≡ written out.old at (table_line layout) }
+#[tactic(auto, using(crate::proofs::Written::pieces), unfolding(ascii::specs::Text::bytes, crate::specs::Lines::line, crate::specs::Lines::table_line))]
+pub fn table_line(layout: BinTable) -> Writer
+    ensures { result ≡ table_line layout }
 {
-    let mut text = [0u8; 128];
-    let columns = words::put_count(&mut text, 0, b"table", layout.tfields as u64, 32);
-    let rows = words::put_count(&mut text, columns, b"columns", layout.naxis2, 32);
-    let bytes = words::put_count(&mut text, rows, b"rows", layout.naxis1, 32);
-    let n = words::put_word(&mut text, bytes, b"bytes", 10);
-    ascii::buffer::put_text(out, at, &text[..n])
+    let mut line = Writer::new();
+    line.word(b"table", b' ');
+    line.number(layout.tfields as u64, b' ');
+    line.word(b"columns", b' ');
+    line.number(layout.naxis2, b' ');
+    line.word(b"rows", b' ');
+    line.number(layout.naxis1, b' ');
+    line.word(b"bytes", b'\n');
+    line
 }
 
 // The start of a line, a name and the line feed. The name is a part of the header, of any length, so it does not go
-// through an array.
+// through a writer.
 fn put_named(out: &mut [u8], at: usize, start: &[u8], name: &[u8]) -> Option<usize>
     ensures to { result ≡ written_to out.old at (start.now ++ (name.now ++ (10 ∷ []))) }
     ensures buffer { out.new ≡ written out.old at (start.now ++ (name.now ++ (10 ∷ []))) }
 {
-    if out.len() < at {
-        return None;
-    }
-    if out.len() - at < start.len() {
-        return None;
-    }
-    if out.len() - at - start.len() <= name.len() {
+    let rest = out.len().checked_sub(at)?.checked_sub(start.len())?;
+    if rest <= name.len() {
         return None;
     }
     let next = ascii::buffer::put(out, at, start);
-    Some(words::put_word(out, next, name, 10))
+    let feed = ascii::buffer::put(out, next, name);
+    Some(ascii::buffer::put(out, feed, b"\n"))
 }
 
 // A column of the layout, and for an index past the array what stands there where there is no column.
 fn column_of(layout: BinTable, c: usize) -> Column
     ensures { result ≡ column_of layout c }
 {
-    if TFIELDS_LIMIT <= c {
-        let form = TFormType::Items(VariableArrayTy::L);
-        let name = None;
-        return Column {
-            form,
-            count: 0,
-            start: 0,
-            name,
-        };
-    }
-    layout.columns[c]
+    layout.columns.get(c).copied().unwrap_or(NO_COLUMN)
 }
 
 // The line of a column, with its name as it is shown.
+#[tactic(auto, using(crate::proofs::Written::pieces), unfolding(ascii::specs::Text::bytes, crate::specs::Lines::line))]
 fn named_line(out: &mut [u8], at: usize, c: usize, column: Column, name: &[u8]) -> Option<usize>
     ensures to { result ≡ written_to out.old at
         (line (bytes "column" ∷ decimal_text c ∷ (form_letter column.form ∷ []) ∷ decimal_text column.count
@@ -118,14 +110,14 @@ fn named_line(out: &mut [u8], at: usize, c: usize, column: Column, name: &[u8]) 
         (line (bytes "column" ∷ decimal_text c ∷ (form_letter column.form ∷ []) ∷ decimal_text column.count
         ∷ bytes "at" ∷ decimal_text column.start ∷ name.now ∷ [])) }
 {
-    let form = column.form;
-    let letter = [tform::form_letter(form)];
-    let mut text = [0u8; 128];
-    let next = words::put_count(&mut text, 0, b"column", c as u64, 32);
-    let count = words::put_word(&mut text, next, &letter, 32);
-    let start = words::put_number(&mut text, count, column.count as u64, 32);
-    let n = words::put_count(&mut text, start, b"at", column.start, 32);
-    put_named(out, at, &text[..n], name)
+    let mut line = Writer::new();
+    line.word(b"column", b' ');
+    line.number(c as u64, b' ');
+    line.word(&[tform::form_letter(column.form)], b' ');
+    line.number(column.count as u64, b' ');
+    line.word(b"at", b' ');
+    line.number(column.start, b' ');
+    put_named(out, at, line.text(), name)
 }
 
 pub fn column_line(

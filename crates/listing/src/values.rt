@@ -1,81 +1,78 @@
-// The value of a cell as text, in a buffer that has room for it.
-ghost use Rattle.std.specs.Prelude.{◌≡◌, ◌+◌, ◌≤◌, length};
-ghost use Rattle.ascii.specs.Buffer.{put_in};
+// The value of a cell as text.
+ghost use Rattle.std.specs.Prelude.{◌≡◌, ◌+◌, ◌≤◌, ◌++◌, length};
 ghost use Rattle.ascii.specs.Number.{decimal_text};
 ghost use Rattle.listing.specs.Text.{hex_text, two_texts, logical_text, value_text};
 
-use crate::{digits, words};
+use crate::writer::Writer;
 use cell::{DataValue, Logical};
 
-fn put_logical(out: &mut [u8], at: usize, logical: Logical) -> usize
-    requires { at + 21 ≤ length out.old }
-    ensures place { result ≡ at + length (logical_text logical) }
-    ensures buffer { out.new ≡ put_in out.old at (logical_text logical) }
-{
-    match logical {
-        Logical::Yes => ascii::buffer::put(out, at, b"T"),
-        Logical::No => ascii::buffer::put(out, at, b"F"),
-        Logical::Unset => ascii::buffer::put(out, at, b"U"),
-        Logical::Odd(byte) => {
-            let next = words::put_byte(out, at, 63);
-            ascii::digits::put_decimal(out, next, byte as u64)
+impl Writer {
+    #[tactic(auto, using(crate::proofs::Written::pieces), unfolding(ascii::specs::Text::bytes))]
+    fn put_logical(&mut self, logical: Logical)
+        requires { length self.old + 21 ≤ 130 }
+        ensures { self.new ≡ self.old ++ logical_text logical }
+    {
+        match logical {
+            Logical::Yes => self.put(b"T"),
+            Logical::No => self.put(b"F"),
+            Logical::Unset => self.put(b"U"),
+            Logical::Odd(byte) => {
+                self.put(b"?");
+                self.put_number(byte as u64);
+            }
         }
     }
-}
 
-fn put_two_decimals(out: &mut [u8], at: usize, one: u64, two: u64) -> usize
-    requires { at + 41 ≤ length out.old }
-    ensures place { result ≡ at + length (two_texts (decimal_text one) (decimal_text two)) }
-    ensures buffer { out.new ≡ put_in out.old at (two_texts (decimal_text one) (decimal_text two)) }
-{
-    let next = words::put_number(out, at, one, 32);
-    ascii::digits::put_decimal(out, next, two)
-}
+    fn put_two_decimals(&mut self, one: u64, two: u64)
+        requires { length self.old + 41 ≤ 130 }
+        ensures { self.new ≡ self.old ++ two_texts (decimal_text one) (decimal_text two) }
+    {
+        self.put_number(one);
+        self.put(b" ");
+        self.put_number(two);
+    }
 
-fn put_two_hex(out: &mut [u8], at: usize, one: u64, two: u64, width: usize) -> usize
-    requires { (width ≤ 16) × (at + 33 ≤ length out.old) }
-    ensures place { result ≡ at + length (two_texts (hex_text width one) (hex_text width two)) }
-    ensures buffer { out.new ≡ put_in out.old at (two_texts (hex_text width one) (hex_text width two)) }
-{
-    let space = digits::put_hex(out, at, one, width);
-    let next = words::put_byte(out, space, 32);
-    digits::put_hex(out, next, two, width)
-}
+    fn put_two_hex(&mut self, one: u64, two: u64, width: u8)
+        requires { (width ≤ 16) × (length self.old + 33 ≤ 130) }
+        ensures { self.new ≡ self.old ++ two_texts (hex_text width one) (hex_text width two) }
+    {
+        self.put_hex(one, width);
+        self.put(b" ");
+        self.put_hex(two, width);
+    }
 
-pub fn put_value(out: &mut [u8], at: usize, value: DataValue) -> usize
-    requires { at + 41 ≤ length out.old }
-    ensures place { result ≡ at + length (value_text value) }
-    ensures buffer { out.new ≡ put_in out.old at (value_text value) }
-{
-    match value {
-        DataValue::Logical(logical) => put_logical(out, at, logical),
-        DataValue::Bit(byte) => ascii::digits::put_decimal(out, at, byte as u64),
-        DataValue::UnsignedByte(byte) => ascii::digits::put_decimal(out, at, byte as u64),
-        DataValue::Short(number) => digits::put_signed(out, at, number as i64),
-        DataValue::Integer(number) => digits::put_signed(out, at, number as i64),
-        DataValue::Long(number) => digits::put_signed(out, at, number),
-        DataValue::Character(byte) => ascii::digits::put_decimal(out, at, byte as u64),
-        DataValue::Float { value: _, bits } => digits::put_hex(out, at, bits as u64, 8),
-        DataValue::Double { value: _, bits } => digits::put_hex(out, at, bits, 16),
-        DataValue::ComplexFloat {
-            real: _,
-            real_bits,
-            imag: _,
-            imag_bits,
-        } => put_two_hex(out, at, real_bits as u64, imag_bits as u64, 8),
-        DataValue::ComplexDouble {
-            real: _,
-            real_bits,
-            imag: _,
-            imag_bits,
-        } => put_two_hex(out, at, real_bits, imag_bits, 16),
-        DataValue::VariableLengthArray32 {
-            num_elems,
-            offset_byte,
-        } => put_two_decimals(out, at, num_elems as u64, offset_byte as u64),
-        DataValue::VariableLengthArray64 {
-            num_elems,
-            offset_byte,
-        } => put_two_decimals(out, at, num_elems, offset_byte),
+    pub fn put_value(&mut self, value: DataValue)
+        requires { length self.old + 41 ≤ 130 }
+        ensures { self.new ≡ self.old ++ value_text value }
+    {
+        match value {
+            DataValue::Logical(logical) => self.put_logical(logical),
+            DataValue::Bit(byte) | DataValue::UnsignedByte(byte) | DataValue::Character(byte) => {
+                self.put_number(byte as u64)
+            }
+            DataValue::Short(number) => self.put_signed(number as i64),
+            DataValue::Integer(number) => self.put_signed(number as i64),
+            DataValue::Long(number) => self.put_signed(number),
+            DataValue::Float { bits, .. } => self.put_hex(bits as u64, 8),
+            DataValue::Double { bits, .. } => self.put_hex(bits, 16),
+            DataValue::ComplexFloat {
+                real_bits,
+                imag_bits,
+                ..
+            } => self.put_two_hex(real_bits as u64, imag_bits as u64, 8),
+            DataValue::ComplexDouble {
+                real_bits,
+                imag_bits,
+                ..
+            } => self.put_two_hex(real_bits, imag_bits, 16),
+            DataValue::VariableLengthArray32 {
+                num_elems,
+                offset_byte,
+            } => self.put_two_decimals(num_elems as u64, offset_byte as u64),
+            DataValue::VariableLengthArray64 {
+                num_elems,
+                offset_byte,
+            } => self.put_two_decimals(num_elems, offset_byte),
+        }
     }
 }

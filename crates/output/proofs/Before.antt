@@ -115,12 +115,12 @@ module _ (l : BinTable) (a s : List ℕ) (t : Settings) where
   first_lines (Ok d) = steps_from l a s t.at d
   first_lines (Err q) = refused_line (number_of q) (place_of q) ∷ []
 
-  by_opening : (o : Result TableData Refusal) → opening_of o ≡ open_with l a (columns_in s t.chosen) t.heap
+  by_opening : (o : Result TableData Refusal) → opening_of o ≡ open_with l a (columns_in s t.choose) t.heap
       → first_lines o ≡ R.opened l a (settings_in s t) (line_feeds (take t.at s) + 1) (lines_of (drop t.at s))
   by_opening (Ok d) e = rw (← e)
   by_opening (Err q) e = rw (← e)
 
-  pub first_lines_lem : (o : Result TableData Refusal) → Read s t → opening_of o ≡ open_with l a (columns_in s t.chosen) t.heap
+  pub first_lines_lem : (o : Result TableData Refusal) → Read s t → opening_of o ≡ open_with l a (columns_in s t.choose) t.heap
       → first_lines o ≡ R.setting_lines l a R.defaults 1 (lines_of s)
   first_lines_lem o r e = by_opening o e ∙ r l a
 

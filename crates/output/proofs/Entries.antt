@@ -22,7 +22,7 @@ use Rattle.walk.specs.Step.{fits, choice_ok, belongs, all_columns, choice_of, Op
 use Rattle.walk.proofs.Follows.{ok_start}
 use Rattle.walk.proofs.InOrder.{left_start, ReadLeft, read_left}
 use Rattle.walk.proofs.Steps.{step_unfit}
-use Rattle.listing.specs.Lines.{column_line, cell_line, end_line, refused_line}
+use Rattle.listing.specs.Lines.{column_line, refused_line}
 use Rattle.output.specs.declared.State.TheVariants as S
 use Rattle.output.specs.Cells.{entry_lines, column_lines, opened_lines, after_columns}
 use Rattle.output.specs.State.{left, next_lines}

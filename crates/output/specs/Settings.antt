@@ -8,23 +8,21 @@ use Rattle.steps.specs.declared.Command.TheVariants as C
 use Rattle.steps.specs.Split.{lines_of, line_at, line_feeds}
 use Rattle.steps.specs.Line.{says, indexes_of}
 use Rattle.output.specs.Replay as R
-use Rattle.output.specs.declared.settings.Chosen.{Chosen}
-use Rattle.output.specs.declared.settings.Chosen.TheVariants as H
 use Rattle.output.specs.declared.settings.Settings.{Settings}
 
 -- the columns: all, or those of the line that begins at a place of the steps s
-abbrev pub columns_in : List ℕ → Chosen → Selection
-columns_in s H.All = all_columns
-columns_in s (H.LineAt at) = listed (indexes_of (says (line_at s at)))
+abbrev pub columns_in : List ℕ → Option ℕ → Selection
+columns_in s None = all_columns
+columns_in s (Some at) = listed (indexes_of (says (line_at s at)))
 
 abbrev pub settings_in : List ℕ → Settings → R.Settings
-settings_in s t = record { columns = columns_in s t.chosen; heap = t.heap }
+settings_in s t = record { columns = columns_in s t.choose; heap = t.heap }
 
 -- what a command changes, of a line that is n bytes long
 abbrev pub changed : Settings → Option Command → ℕ → Option Settings
-changed t (Some C.ChooseAll) n = Some (record { chosen = H.All; heap = t.heap; at = t.at + n + 1 })
-changed t (Some C.Choose) n = Some (record { chosen = H.LineAt t.at; heap = t.heap; at = t.at + n + 1 })
-changed t (Some (C.Heap on)) n = Some (record { chosen = t.chosen; heap = on; at = t.at + n + 1 })
+changed t (Some C.ChooseAll) n = Some (record { choose = None; heap = t.heap; at = t.at + n + 1 })
+changed t (Some C.Choose) n = Some (record { choose = Some t.at; heap = t.heap; at = t.at + n + 1 })
+changed t (Some (C.Heap on)) n = Some (record { choose = t.choose; heap = on; at = t.at + n + 1 })
 changed t (Some C.Cell) n = None
 changed t (Some (C.Row m)) n = None
 changed t (Some (C.Seek r)) n = None

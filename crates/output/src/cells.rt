@@ -1,11 +1,9 @@
 // The lines of `cells`.
 ghost use Rattle.std.specs.Prelude.{◌≡◌};
-ghost use Rattle.output.specs.Next.{cells_next};
-ghost use Rattle.output.specs.State.{left, next_lines};
+ghost use Rattle.output.specs.Next.{cells_next, left_of, lines_by};
 
-use crate::{Next, State};
+use crate::{Next, Source, State};
 use cell::Cell;
-use layout::BinTable;
 use listing::Line;
 use refusal::Refusal;
 use walk::TableData;
@@ -30,37 +28,31 @@ fn answered(answer: Result<Option<Cell>, Refusal>, after: TableData) -> Next
     }
 }
 
-// A cell read, and the line of its answer.
-pub fn next_cell(
-    header: &[u8],
-    layout: BinTable,
-    area: &[u8],
-    steps: &[u8],
-    cursor: TableData,
-) -> Next
-    ensures { next_lines header.now layout area.now steps.now (Some result)
-        ≡ left header.now layout area.now steps.now (State.Cells cursor) }
-{
-    let stepped = table::next(layout, area, cursor);
-    answered(stepped.answer, stepped.cursor)
-}
-
-// The line of a column. After the last one all columns are opened, with the heap on.
-pub fn next_column(header: &[u8], layout: BinTable, area: &[u8], steps: &[u8], c: usize) -> Next
-    ensures { next_lines header.now layout area.now steps.now (Some result)
-        ≡ left header.now layout area.now steps.now (State.Column c) }
-{
-    if c < layout.tfields {
-        return Next {
-            line: Line::Column(c),
-            state: State::Column(c + 1),
-        };
+impl Source<'_> {
+    // A cell read, and the line of its answer.
+    pub fn next_cell(&self, cursor: TableData) -> Next
+        ensures { lines_by self.now (Some result) ≡ left_of self.now (State.Cells cursor) }
+    {
+        let stepped = table::next(self.layout, self.area, cursor);
+        answered(stepped.answer, stepped.cursor)
     }
-    match table::open(layout, area, true) {
-        Ok(cursor) => next_cell(header, layout, area, steps, cursor),
-        Err(refusal) => Next {
-            line: Line::Refused(refusal),
-            state: State::Done,
-        },
+
+    // The line of a column. After the last one all columns are opened, with the heap on.
+    pub fn next_column(&self, c: usize) -> Next
+        ensures { lines_by self.now (Some result) ≡ left_of self.now (State.Column c) }
+    {
+        if c < self.layout.tfields {
+            return Next {
+                line: Line::Column(c),
+                state: State::Column(c + 1),
+            };
+        }
+        match table::open(self.layout, self.area, true) {
+            Ok(cursor) => self.next_cell(cursor),
+            Err(refusal) => Next {
+                line: Line::Refused(refusal),
+                state: State::Done,
+            },
+        }
     }
 }

@@ -12,7 +12,8 @@ ghost use Rattle.bintable.specs.Entry.{entry, entry_of, layout_in};
 ghost use Rattle.ascii.specs.Buffer.{put_in};
 ghost use Rattle.output.specs.Cells.{file_limit, header_of, data_of, cells_lines};
 ghost use Rattle.output.specs.Replay.{replay_lines};
-ghost use Rattle.output.specs.State.{left, next_lines, file_left};
+ghost use Rattle.output.specs.State.{file_left};
+ghost use Rattle.output.specs.Next.{left_of, lines_by};
 ghost use Rattle.output.specs.Page.{page_text, page_rest, Whole};
 
 use layout::{BinTable, EMPTY_LAYOUT};
@@ -33,8 +34,8 @@ pub enum State {
     Table,
     Column(usize),
     Cells(TableData),
-    // `replay`: the line of the steps at this place, the cursor's place and count, cell k of the list that the row read
-    // by `reader` stores to.
+    // `replay`: the line of the steps at this place, the cursor's place and count, cell k of the list that the row
+    // read by `reader` stores to.
     Step {
         at: usize,
         cursor: TableData,
@@ -49,7 +50,7 @@ pub enum State {
         len: usize,
         k: usize,
     },
-    // A refusal, and nothing after it.
+    // The line of a refusal, and nothing after it.
     Refused(Refusal),
     Done,
 }
@@ -75,36 +76,39 @@ pub struct Start {
     pub state: State,
 }
 
-// The next line, none where nothing is left. The header is that of the layout; only the text of a column's line speaks of it.
-fn next_line(
-    header: &[u8],
+// What the lines are made of: a table, with the header of its layout, and a file of steps.
+#[derive(Clone, Copy)]
+struct Source<'a> {
+    header: &'a [u8],
     layout: BinTable,
-    area: &[u8],
-    steps: &[u8],
-    state: State,
-) -> Option<Next>
-    ensures { next_lines header.now layout area.now steps.now result ≡ left header.now layout area.now steps.now state }
-{
-    match state {
-        State::Table => Some(Next {
-            line: Line::Table,
-            state: State::Column(0),
-        }),
-        State::Column(c) => Some(cells::next_column(header, layout, area, steps, c)),
-        State::Cells(cursor) => Some(cells::next_cell(header, layout, area, steps, cursor)),
-        State::Step { at, cursor } => replay::next_step(header, layout, area, steps, at, cursor),
-        State::At { at, cursor } => Some(Next {
-            line: Line::At(cursor),
-            state: State::Step { at, cursor },
-        }),
-        State::Listed { at, reader, len, k } => {
-            Some(replay::next_listed(header, layout, area, steps, at, reader, len, k))
+    area: &'a [u8],
+    steps: &'a [u8],
+}
+
+impl Source<'_> {
+    // The next line, none where nothing is left.
+    fn next_line(&self, state: State) -> Option<Next>
+        ensures { lines_by self.now result ≡ left_of self.now state }
+    {
+        match state {
+            State::Table => Some(Next {
+                line: Line::Table,
+                state: State::Column(0),
+            }),
+            State::Column(c) => Some(self.next_column(c)),
+            State::Cells(cursor) => Some(self.next_cell(cursor)),
+            State::Step { at, cursor } => self.next_step(at, cursor),
+            State::At { at, cursor } => Some(Next {
+                line: Line::At(cursor),
+                state: State::Step { at, cursor },
+            }),
+            State::Listed { at, reader, len, k } => Some(self.next_listed(at, reader, len, k)),
+            State::Refused(refusal) => Some(Next {
+                line: Line::Refused(refusal),
+                state: State::Done,
+            }),
+            State::Done => None,
         }
-        State::Refused(refusal) => Some(Next {
-            line: Line::Refused(refusal),
-            state: State::Done,
-        }),
-        State::Done => None,
     }
 }
 
@@ -112,14 +116,21 @@ fn next_line(
 // the buffer is 128 bytes longer than the file there is room for every line, so an empty page is the last.
 pub fn next_page(file: &[u8], layout: BinTable, steps: &[u8], state: State, out: &mut [u8]) -> Page
     ensures len { result.len ≡ length (page_text (length out.old) (file_left file.now layout steps.now state)) }
-    ensures buffer { out.new ≡ put_in out.old 0 (page_text (length out.old) (file_left file.now layout steps.now state)) }
+    ensures buffer { out.new ≡ put_in out.old 0
+        (page_text (length out.old) (file_left file.now layout steps.now state)) }
     ensures state { file_left file.now layout steps.now result.state
         ≡ page_rest (length out.old) (file_left file.now layout steps.now state) }
     ensures whole { Whole (length file.now + 128) (length out.old) result.len
         (file_left file.now layout steps.now state) }
 {
-    let len = header::header_len(file);
-    pages::fill_page(&file[..len], layout, &file[len..], steps, state, out)
+    let (header, area) = split_file(file);
+    let source = Source {
+        header,
+        layout,
+        area,
+        steps,
+    };
+    source.fill_page(state, out)
 }
 
 // The bytes of a file that are looked at.
@@ -132,12 +143,20 @@ pub fn first_bytes(file: &[u8]) -> &[u8]
     file
 }
 
-// The entry of a file: its header through the block that has END, and the data after it.
+// The header of a file, through the block that has END, and the data after it.
+fn split_file(file: &[u8]) -> (&[u8], &[u8])
+    ensures header { result.0.now ≡ header_of file.now }
+    ensures data { result.1.now ≡ data_of file.now }
+{
+    file.split_at(header::header_len(file))
+}
+
+// The entry of a file.
 pub fn parse_file(file: &[u8]) -> Result<BinTable, Refusal>
     ensures { entry_of result ≡ entry (header_of file.now) (data_of file.now) }
 {
-    let len = header::header_len(file);
-    bintable::parse(&file[..len], &file[len..])
+    let (header, area) = split_file(file);
+    bintable::parse(header, area)
 }
 
 // The start of a file that is refused: the layout is the empty one.
@@ -171,11 +190,10 @@ pub fn replay_start(file: &[u8], steps: &[u8]) -> Start
     ensures lines { file_left file.now result.layout (take file_limit steps.now) result.state
         ≡ replay_lines file.now (take file_limit steps.now) }
 {
-    let parsed = parse_file(file);
-    match parsed {
+    match parse_file(file) {
         Ok(layout) => {
-            let len = header::header_len(file);
-            let state = settings::first_step(layout, &file[len..], first_bytes(steps));
+            let (_, area) = split_file(file);
+            let state = settings::first_step(layout, area, first_bytes(steps));
             Start { layout, state }
         }
         Err(refusal) => refused(refusal),
@@ -189,9 +207,6 @@ pub fn replay_text(file: &[u8], steps: &[u8], out: &mut [u8]) -> usize
     ensures buffer { out.new ≡ put_in out.old 0
         (page_text (length out.old) (replay_lines file.now (take file_limit steps.now))) }
 {
-    let start = replay_start(file, steps);
-    let layout = start.layout;
-    let state = start.state;
-    let page = next_page(file, layout, first_bytes(steps), state, out);
-    page.len
+    let Start { layout, state } = replay_start(file, steps);
+    next_page(file, layout, first_bytes(steps), state, out).len
 }

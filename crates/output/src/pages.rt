@@ -1,46 +1,37 @@
 // As many whole lines as the buffer has room for.
 ghost use Rattle.std.specs.Prelude.{◌≡◌, ◌+◌, length};
 ghost use Rattle.ascii.specs.Buffer.{put_in};
-ghost use Rattle.output.specs.State.{left};
+ghost use Rattle.output.specs.Next.{left_of};
 ghost use Rattle.output.specs.Page.{page_text, page_rest, Whole};
 
-use crate::{Next, Page, State};
-use layout::BinTable;
+use crate::{Next, Page, Source, State};
 
-pub fn fill_page(
-    header: &[u8],
-    layout: BinTable,
-    area: &[u8],
-    steps: &[u8],
-    state: State,
-    out: &mut [u8],
-) -> Page
-    ensures len { result.len ≡ length (page_text (length out.old) (left header.now layout area.now steps.now state)) }
-    ensures buffer { out.new ≡ put_in out.old 0
-        (page_text (length out.old) (left header.now layout area.now steps.now state)) }
-    ensures state { left header.now layout area.now steps.now result.state
-        ≡ page_rest (length out.old) (left header.now layout area.now steps.now state) }
-    ensures whole { Whole (length header.now + 128) (length out.old) result.len
-        (left header.now layout area.now steps.now state) }
-{
-    let mut len: usize = 0;
-    let mut current = state;
-    loop {
-        let next = crate::next_line(header, layout, area, steps, current);
-        let Some(Next { line, state: after }) = next else {
-            return Page {
-                len,
-                state: current,
+impl Source<'_> {
+    pub fn fill_page(&self, state: State, out: &mut [u8]) -> Page
+        ensures len { result.len ≡ length (page_text (length out.old) (left_of self.now state)) }
+        ensures buffer { out.new ≡ put_in out.old 0 (page_text (length out.old) (left_of self.now state)) }
+        ensures state { left_of self.now result.state ≡ page_rest (length out.old) (left_of self.now state) }
+        ensures whole { Whole (length self.now.header.now + 128) (length out.old) result.len (left_of self.now state) }
+    {
+        let mut len: usize = 0;
+        let mut current = state;
+        loop {
+            let next = self.next_line(current);
+            let Some(Next { line, state: after }) = next else {
+                return Page {
+                    len,
+                    state: current,
+                };
             };
-        };
-        let written = listing::put_line(out, len, header, layout, line);
-        let Some(end) = written else {
-            return Page {
-                len,
-                state: current,
+            let written = listing::put_line(out, len, self.header, self.layout, line);
+            let Some(end) = written else {
+                return Page {
+                    len,
+                    state: current,
+                };
             };
-        };
-        len = end;
-        current = after;
+            len = end;
+            current = after;
+        }
     }
 }

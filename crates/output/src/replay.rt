@@ -2,12 +2,11 @@
 ghost use Rattle.std.specs.Prelude.{◌≡◌, ◌+◌, ◌≤◌, length, take};
 ghost use Rattle.walk.specs.Step.{row_reply};
 ghost use Rattle.steps.specs.Split.{line_feeds};
-ghost use Rattle.output.specs.State.{stored_by, left, next_lines};
-ghost use Rattle.output.specs.Next.{answered, cell_next, seek_next, row_next};
+ghost use Rattle.output.specs.State.{stored_by};
+ghost use Rattle.output.specs.Next.{left_of, lines_by, answered, cell_next, seek_next, row_next};
 
-use crate::{Next, State};
+use crate::{Next, Source, State};
 use cell::Cell;
-use layout::BinTable;
 use listing::Line;
 use refusal::Refusal;
 use steps::Command;
@@ -82,45 +81,6 @@ fn bad_line(steps: &[u8], at: usize) -> Next
     }
 }
 
-// The line at a place of the steps, and the step that it says; none at the end of the steps.
-pub fn next_step(
-    header: &[u8],
-    layout: BinTable,
-    area: &[u8],
-    steps: &[u8],
-    at: usize,
-    cursor: TableData,
-) -> Option<Next>
-    ensures { next_lines header.now layout area.now steps.now result
-        ≡ left header.now layout area.now steps.now (State.Step at cursor) }
-{
-    if steps.len() <= at {
-        return None;
-    }
-    let line = steps::line_at(steps, at);
-    let after = at + line.len() + 1;
-    let Some(command) = steps::parse_command(line) else {
-        return Some(bad_line(steps, at));
-    };
-    let next = match command {
-        Command::Cell => {
-            let stepped = table::next(layout, area, cursor);
-            cell_answered(stepped.answer, after, stepped.cursor)
-        }
-        Command::Row(n) => {
-            let read = row::owners::row_cell(layout, area, cursor, cell::blank_cell(), n, 0);
-            let stepped = read.stepped;
-            row_answered(stepped.answer, after, cursor, n, stepped.cursor)
-        }
-        Command::Seek(row) => {
-            let stepped = table::seek_to_row(layout, area, cursor, row);
-            seek_answered(stepped.answer, row, after, stepped.cursor)
-        }
-        Command::ChooseAll | Command::Choose | Command::Heap(_) => bad_line(steps, at),
-    };
-    Some(next)
-}
-
 // How many cells a row read stored, by its answer.
 fn stored(answer: Result<Option<u64>, Refusal>) -> u64
     ensures { result ≡ stored_by (row_reply answer) }
@@ -131,38 +91,62 @@ fn stored(answer: Result<Option<u64>, Refusal>) -> u64
     }
 }
 
-// The next cell of the list that a row read stored to; after the last one the cursor's place and count. The row is read
-// anew for each cell, since no state can hold the list.
-pub fn next_listed(
-    header: &[u8],
-    layout: BinTable,
-    area: &[u8],
-    steps: &[u8],
-    at: usize,
-    reader: TableData,
-    len: usize,
-    k: usize,
-) -> Next
-    ensures { next_lines header.now layout area.now steps.now (Some result)
-        ≡ left header.now layout area.now steps.now (State.Listed at reader len k) }
-{
-    let read = row::owners::row_cell(layout, area, reader, cell::blank_cell(), len, k);
-    let stepped = read.stepped;
-    let cursor = stepped.cursor;
-    if (k as u64) < stored(stepped.answer) {
-        let cell = read.cell;
-        return Next {
-            line: Line::Cell(cell),
-            state: State::Listed {
-                at,
-                reader,
-                len,
-                k: k + 1,
-            },
+impl Source<'_> {
+    // The line at a place of the steps, and the step that it says; none at the end of the steps.
+    pub fn next_step(&self, at: usize, cursor: TableData) -> Option<Next>
+        ensures { lines_by self.now result ≡ left_of self.now (State.Step at cursor) }
+    {
+        if self.steps.len() <= at {
+            return None;
+        }
+        let line = steps::line_at(self.steps, at);
+        let after = at + line.len() + 1;
+        let Some(command) = steps::parse_command(line) else {
+            return Some(bad_line(self.steps, at));
         };
+        let next = match command {
+            Command::Cell => {
+                let stepped = table::next(self.layout, self.area, cursor);
+                cell_answered(stepped.answer, after, stepped.cursor)
+            }
+            Command::Row(n) => {
+                let blank = cell::blank_cell();
+                let read = row::owners::row_cell(self.layout, self.area, cursor, blank, n, 0);
+                let stepped = read.stepped;
+                row_answered(stepped.answer, after, cursor, n, stepped.cursor)
+            }
+            Command::Seek(row) => {
+                let stepped = table::seek_to_row(self.layout, self.area, cursor, row);
+                seek_answered(stepped.answer, row, after, stepped.cursor)
+            }
+            Command::ChooseAll | Command::Choose | Command::Heap(_) => bad_line(self.steps, at),
+        };
+        Some(next)
     }
-    Next {
-        line: Line::At(cursor),
-        state: State::Step { at, cursor },
+
+    // The next cell of the list that a row read stored to; after the last one the cursor's place and count. The row is
+    // read anew for each cell, since no state can hold the list.
+    pub fn next_listed(&self, at: usize, reader: TableData, len: usize, k: usize) -> Next
+        ensures { lines_by self.now (Some result) ≡ left_of self.now (State.Listed at reader len k) }
+    {
+        let blank = cell::blank_cell();
+        let read = row::owners::row_cell(self.layout, self.area, reader, blank, len, k);
+        let stepped = read.stepped;
+        let cursor = stepped.cursor;
+        if (k as u64) < stored(stepped.answer) {
+            return Next {
+                line: Line::Cell(read.cell),
+                state: State::Listed {
+                    at,
+                    reader,
+                    len,
+                    k: k + 1,
+                },
+            };
+        }
+        Next {
+            line: Line::At(cursor),
+            state: State::Step { at, cursor },
+        }
     }
 }

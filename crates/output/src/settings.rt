@@ -12,46 +12,40 @@ use refusal::Refusal;
 use steps::Command;
 use walk::TableData;
 
-// All columns, or those of the `choose` line that begins at this place of the steps.
-#[derive(Clone, Copy)]
-pub enum Chosen {
-    All,
-    LineAt(usize),
-}
-
-// What is set so far, and the place after the lines that were read.
+// What is set so far, and the place after the lines that were read. The columns are those of the `choose` line that
+// begins at a place of the steps, all where there is none.
 #[derive(Clone, Copy)]
 pub struct Settings {
-    pub chosen: Chosen,
+    pub choose: Option<usize>,
     pub heap: bool,
     pub at: usize,
 }
 
-// A command of a line that is n bytes long: the settings after it, none where it is a step or no command, since the lines
-// before the first step are over.
+// A command of a line that is n bytes long: the settings after it, none where it is a step or no command, since the
+// lines before the first step are over.
 fn after_command(settings: Settings, command: Option<Command>, n: usize) -> Option<Settings>
     requires { settings.at + n + 1 < 2 ^ 64 }
     ensures { result ≡ changed settings command n }
 {
-    let (chosen, heap) = match command? {
-        Command::ChooseAll => (Chosen::All, settings.heap),
-        Command::Choose => (Chosen::LineAt(settings.at), settings.heap),
-        Command::Heap(on) => (settings.chosen, on),
+    let (choose, heap) = match command? {
+        Command::ChooseAll => (None, settings.heap),
+        Command::Choose => (Some(settings.at), settings.heap),
+        Command::Heap(on) => (settings.choose, on),
         Command::Cell | Command::Row(_) | Command::Seek(_) => return None,
     };
     Some(Settings {
-        chosen,
+        choose,
         heap,
         at: settings.at + n + 1,
     })
 }
 
-// Reads the lines before the first step.
+// Reads the lines before the first step. Each says where the next begins, so the loop counts no index.
 fn read_settings(steps: &[u8]) -> Settings
     ensures { Read steps.now result }
 {
     let mut settings = Settings {
-        chosen: Chosen::All,
+        choose: None,
         heap: true,
         at: 0,
     };
@@ -72,14 +66,14 @@ fn open(
     layout: BinTable,
     area: &[u8],
     steps: &[u8],
-    chosen: Chosen,
+    choose: Option<usize>,
     heap: bool,
 ) -> Result<TableData, Refusal>
-    ensures { opening_of result ≡ open_with layout area.now (columns_in steps.now chosen) heap }
+    ensures { opening_of result ≡ open_with layout area.now (columns_in steps.now choose) heap }
 {
-    match chosen {
-        Chosen::All => table::open(layout, area, heap),
-        Chosen::LineAt(at) => {
+    match choose {
+        None => table::open(layout, area, heap),
+        Some(at) => {
             // Place c holds c if the line chooses column c, and else a number that is no column's.
             let mut columns = [TFIELDS_LIMIT; TFIELDS_LIMIT];
             steps::place_indexes(steps::line_at(steps, at), &mut columns);
@@ -93,13 +87,9 @@ pub fn first_step(layout: BinTable, area: &[u8], steps: &[u8]) -> State
     ensures { (h : List ℕ) → left h layout area.now steps.now result
         ≡ setting_lines layout area.now defaults 1 (lines_of steps.now) }
 {
-    let settings = read_settings(steps);
-    let chosen = settings.chosen;
-    match open(layout, area, steps, chosen, settings.heap) {
-        Ok(cursor) => State::Step {
-            at: settings.at,
-            cursor,
-        },
+    let Settings { choose, heap, at } = read_settings(steps);
+    match open(layout, area, steps, choose, heap) {
+        Ok(cursor) => State::Step { at, cursor },
         Err(refusal) => State::Refused(refusal),
     }
 }

@@ -26,7 +26,7 @@ pub enum Refusal {
     ShortList { cells: u64 },
 }
 
-// The number of a refusal.
+// The number of a refusal. It has a place too, so neither is a `From`.
 pub fn number(refusal: Refusal) -> u64
     ensures { result ≡ number_of refusal }
 {

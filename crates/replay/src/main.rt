@@ -23,7 +23,5 @@ fn main(rt: HostRuntime) {
     let m = read_steps(&rt, file, &mut text);
     let steps = &text[..m];
     let start = output::replay_start(file, steps);
-    let layout = start.layout;
-    let state = start.state;
-    console::print_pages(&rt, file, layout, steps, state);
+    console::print_pages(&rt, file, start.layout, steps, start.state);
 }

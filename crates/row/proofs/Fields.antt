@@ -2,39 +2,28 @@
 -- found at the first entry that is left of it.
 -- Assumes nothing.
 use Rattle.std.specs.Prelude.{Option}
-use Prim.Native.Nat.{ℕ, zero, suc, ◌+◌, ◌-◌, ◌*◌}
+use Prim.Native.Nat.{ℕ, zero, suc, ◌+◌, ◌-◌}
 use mathlib.Core.Path.{◌≡◌, refl, sym, ap, ◌∙◌}
 use mathlib.Core.Bool.{Bool, true, false, cond}
 use mathlib.Core.List.{List, [], ◌∷◌, ◌++◌}
 use native.Mathlib.Nat.{add-zero, zero-add, add-suc, suc-add, zero-sub, sub-zero, suc-sub-suc}
 use native.Mathlib.Omega.{arith}
 use lib.ListN.{length, drop, length-append}
-use lib.Dec.{eqb, leb}
-use Rattle.ascii.proofs.Cases.{by_test}
-use Rattle.tform.specs.declared.VariableArrayTy.{VariableArrayTy}
-use Rattle.tform.specs.declared.VariableArrayTy.TheVariants.{L}
-use Rattle.tform.specs.declared.TFormType.{TFormType}
-use Rattle.tform.specs.declared.TFormType.TheVariants as T
-use Rattle.tform.specs.Width.{items}
 use Rattle.layout.specs.declared.Column.{Column}
 use Rattle.layout.specs.declared.BinTable.{BinTable}
 use Rattle.cell.specs.declared.Cell.{Cell}
 use Rattle.cell.specs.declared.DataValue.{DataValue}
-use Rattle.cell.specs.declared.DataValue.TheVariants as D
 use Rattle.cell.specs.declared.Field.{Field}
 use Rattle.cell.specs.declared.Field.TheVariants as F
-use Rattle.cell.specs.Item.{word, width}
-use Rattle.cell.specs.Field.{array, field32, field64, field_by, field, size_of}
+use Rattle.cell.specs.Field.{field, size_of}
 use Rattle.walk.specs.declared.TableData.{TableData}
 use Rattle.walk.specs.declared.Stepped.{Stepped}
 use Rattle.walk.specs.declared.Entry.{Entry}
 use Rattle.walk.specs.declared.Entry.TheVariants as E
 use Rattle.walk.specs.Plain.{column_of, field_of, cell_of, item_at, cells, entries_of, chosen, column_entries, column_size}
 use Rattle.walk.specs.Walk.{Gathered, all_cells, outside, before, gather}
-use Rattle.row.specs.declared.plan.FieldKind.{FieldKind}
-use Rattle.row.specs.declared.plan.FieldKind.TheVariants as K
 use Rattle.row.specs.declared.plan.FieldPlan.{FieldPlan}
-use Rattle.row.specs.Plan.{cell_in, descriptor_kind, plan_of, field_plan, is_outside, planned_cell, plan_at, plan_for}
+use Rattle.row.specs.Plan.{plan_of, field_plan, is_outside, planned_cell, plan_at, plan_for}
 
 -- Q of two choices by the same test
 pub by_both {ℓ κ} : {A : Type ℓ} {B : Type κ} (Q : A → B → Type 0) (t : Bool) {x y : A} {u v : B} → (t ≡ true → Q x u) → (t ≡ false → Q y v)
@@ -111,66 +100,17 @@ unfolding gather
 one_gathered f zero es = ap (before (f 0)) (sym (none_before (gather es))) ∙ one_before (f 0) [] (gather es)
 one_gathered f (suc j) es = rw (none_left j, one_less j, none_before (gather (drop j es)))
 
--- a descriptor's value is that of the two numbers at its place
-abbrev DescriptorIs : List ℕ → ℕ → FieldKind → DataValue → Type 0
-DescriptorIs a p K.Items v = ⊥
-DescriptorIs a p K.Descriptor32 v = v ≡ D.VariableLengthArray32 (word a p 4) (word a (p + 4) 4)
-DescriptorIs a p K.Descriptor64 v = v ≡ D.VariableLengthArray64 (word a p 8) (word a (p + 8) 8)
-DescriptorIs a p K.OutsideHeap v = ⊥
-
-abbrev Described : List ℕ → ℕ → FieldKind → Field → Type 0
-Described a p kind (F.Items ty at n) = Unit {0}
-Described a p kind (F.Descriptor v) = DescriptorIs a p kind v
-Described a p kind F.OutsideHeap = Unit {0}
-
-array_described : (a : List ℕ) (p : ℕ) (kind : FieldKind) (theap end : ℕ) (ty : VariableArrayTy) (n o : ℕ) → Described a p kind (array theap end ty n o)
-unfolding array
-array_described a p kind theap end ty n o =
-    by_test (Described a p kind) (eqb n 0) (λ t. tt)
-    (λ t. by_test (Described a p kind) (leb (theap + o + items ty n * width ty) end) (λ u. tt) (λ u. tt))
-
-described : (a : List ℕ) (p : ℕ) (f : TFormType) (n : ℕ) (heap : Bool) (theap end : ℕ) → Described a p (descriptor_kind f) (field_by a p f n heap theap end)
-unfolding field32 field64
-described a p (T.Items ty) n heap theap end = tt
-described a p (T.P ty) n heap theap end =
-    by_test (Described a p K.Descriptor32) (eqb n 0) (λ z. tt)
-    (λ z.
-    by_test (Described a p K.Descriptor32) heap (λ t. array_described a p K.Descriptor32 theap end ty _ _) (λ t. refl))
-described a p (T.Q ty) n heap theap end =
-    by_test (Described a p K.Descriptor64) (eqb n 0) (λ z. tt)
-    (λ z.
-    by_test (Described a p K.Descriptor64) heap (λ t. array_described a p K.Descriptor64 theap end ty _ _) (λ t. refl))
-
-first_place : (p : ℕ) (ty : VariableArrayTy) → p + 0 * width ty ≡ p
-first_place p ty = omega arith
-
-descriptor_gathered : (column : Column) (a : List ℕ) (r c p : ℕ) (kind : FieldKind) (v : DataValue) → DescriptorIs a p kind v → (skip : ℕ) (es : List Entry)
-    → gather (drop skip (E.Cell (cell_of r c 0 v) ∷ es)) ≡ gather_by a c (plan_of r c column kind p skip (F.Descriptor v)) es
-descriptor_gathered column a r c p K.Items v d skip es = absurd d
-descriptor_gathered column a r c p K.Descriptor32 v d skip es =
-    let e : cell_of r c 0 v ≡ cell_in column a r c K.Descriptor32 L p 0 = simp (first_place p L, d) in
-    rw e (one_gathered (cell_in column a r c K.Descriptor32 L p) skip es)
-descriptor_gathered column a r c p K.Descriptor64 v d skip es =
-    let e : cell_of r c 0 v ≡ cell_in column a r c K.Descriptor64 L p 0 = simp (first_place p L, d) in
-    rw e (one_gathered (cell_in column a r c K.Descriptor64 L p) skip es)
-descriptor_gathered column a r c p K.OutsideHeap v d skip es = absurd d
-
-field_gathered : (column : Column) (a : List ℕ) (r c p : ℕ) (kind : FieldKind) (f : Field) → Described a p kind f → (skip : ℕ) (es : List Entry)
-    → gather (drop skip (entries_of column a r c f ++ es)) ≡ gather_by a c (plan_of r c column kind p skip f) es
+field_gathered : (column : Column) (a : List ℕ) (r c : ℕ) (f : Field) (skip : ℕ) (es : List Entry)
+    → gather (drop skip (entries_of column a r c f ++ es)) ≡ gather_by a c (plan_of r c column skip f) es
 unfolding entries_of gather
-field_gathered column a r c p kind (F.Items ty at n) d skip es =
+field_gathered column a r c (F.Items ty at n) skip es =
     ap gather (cells_drop r c (item_at column a ty at) 0 n skip es)
     ∙ cells_gathered r c (item_at column a ty at) (0 + skip) (n - skip) (drop (skip - n) es)
     ∙ ap (λ (xs : List Cell). before_all xs (gather (drop (skip - n) es)))
-    (rw (zero-add skip, cells_later (cell_in column a r c K.Items ty at) skip 0 (n - skip), add-zero skip))
-field_gathered column a r c p kind (F.Descriptor v) d skip es = descriptor_gathered column a r c p kind v d skip es
-field_gathered column a r c p kind F.OutsideHeap d zero es = refl
-field_gathered column a r c p kind F.OutsideHeap d (suc j) es = rw (none_left j, one_less j, none_before (gather (drop j es)))
-
-field_n : (r c : ℕ) (column : Column) (kind : FieldKind) (p skip : ℕ) (f : Field) → (plan_of r c column kind p skip f).n ≡ size_of f - skip
-field_n r c column kind p skip (F.Items ty at n) = refl
-field_n r c column kind p skip (F.Descriptor v) = refl
-field_n r c column kind p skip F.OutsideHeap = refl
+    (rw (zero-add skip, cells_later (λ i. cell_of r c i (item_at column a ty at i)) skip 0 (n - skip), add-zero skip))
+field_gathered column a r c (F.Descriptor v) skip es = one_gathered (λ i. cell_of r c i v) skip es
+field_gathered column a r c F.OutsideHeap zero es = refl
+field_gathered column a r c F.OutsideHeap (suc j) es = rw (none_left j, one_less j, none_before (gather (drop j es)))
 
 -- ---- and of a column
 
@@ -181,12 +121,12 @@ module _ (l : BinTable) (a : List ℕ) (c : TableData) (s : Stepped (Option ℕ)
 
   pub plan_n : (k skip : ℕ) → (field_on k skip).n ≡ column_size l a c.choice c.heap c.row k - skip
   unfolding field_plan field_of
-  plan_n k skip = by_both (λ (f : FieldPlan) (n : ℕ). f.n ≡ n - skip) (chosen c.choice k) (λ t. field_n _ _ _ _ _ skip (field_of l a c.heap c.row k)) (λ t. refl)
+  plan_n k skip = by_both (λ (f : Field) (n : ℕ). size_of f - skip ≡ n - skip) (chosen c.choice k) (λ t. refl) (λ t. refl)
 
   pub column_gathered : (k skip : ℕ) (es : List Entry)
       → gather (drop skip (column_entries l a c.choice c.heap c.row k ++ es)) ≡ gather_by a k (field_on k skip) es
   unfolding column_entries field_plan field_of field gather
   column_gathered k skip es =
-      by_both (λ (xs : List Entry) (f : FieldPlan). gather (drop skip (xs ++ es)) ≡ gather_by a k f es) (chosen c.choice k)
-      (λ t. field_gathered (column_of l k) a c.row k _ _ _ (described a _ (column_of l k).form _ c.heap _ _) skip es)
+      by_both (λ (xs : List Entry) (f : Field). gather (drop skip (xs ++ es)) ≡ gather_by a k (plan_of c.row k (column_of l k) skip f) es) (chosen c.choice k)
+      (λ t. field_gathered (column_of l k) a c.row k _ skip es)
       (λ t. rw (zero-sub skip, sub-zero skip, none_before (gather (drop skip es))))

@@ -41,18 +41,18 @@ after_all f n total (outside k) = refl
 -- what the columns of a plan's row give from column k on without the first `skip` entries, and what is left of the row
 module _ (l : BinTable) (a : List ℕ) (p : RowPlan) where
   abbrev pub later : ℕ → ℕ → Gathered
-  later k skip = gather (drop skip (from l a p.choice p.heap p.row k))
+  later k skip = gather (drop skip (from l a p.cursor.choice p.cursor.heap p.cursor.row k))
 
   abbrev pub row : List Entry
-  row = row_entries l a p.choice p.heap p.row
+  row = row_entries l a p.cursor.choice p.cursor.heap p.cursor.row
 
   -- the loop's invariant, but that column k is chosen
   abbrev pub Left : ℕ → ℕ → ℕ → Type 0
-  Left total skip k = (total + length (from l a p.choice p.heap p.row k) ≤ length row) × (left_of (gather (drop p.passed row)) ≡ after total (later k skip))
+  Left total skip k = (total + length (from l a p.cursor.choice p.cursor.heap p.cursor.row k) ≤ length row) × (left_of (gather (drop p.cursor.passed row)) ≡ after total (later k skip))
 
   -- the columns up to the next that is chosen have no entry
-  pub left_next : (total skip k j : ℕ) → j ≡ next_chosen p.choice k → Left total skip k → Left total skip j
-  left_next total skip k j e i = rw (← next_from_lem p.choice k j e l a p.heap p.row) i
+  pub left_next : (total skip k j : ℕ) → j ≡ next_chosen p.cursor.choice k → Left total skip k → Left total skip j
+  left_next total skip k j e i = rw (← next_from_lem p.cursor.choice k j e l a p.cursor.heap p.cursor.row) i
 
 module _ (l : BinTable) (a : List ℕ) (c : TableData) (s : Stepped (Option ℕ)) where
   pub left_start : c.row < l.naxis2 → Left l a (plan_for l c s) 0 c.passed 0

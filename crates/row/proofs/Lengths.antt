@@ -50,11 +50,11 @@ module _ (columns : List Column) (a : List ℕ) (p : RowPlan) where
 
   -- ---- a column that is not chosen, and so on to the next that is. Of n columns those from c on are left
 
-  none_planned : (c skip : ℕ) → chosen p.choice c ≡ false → ((plan_at columns a p c skip).n ≡ 0) × ((plan_at columns a p c skip).skip ≡ skip)
+  none_planned : (c skip : ℕ) → chosen p.cursor.choice c ≡ false → ((plan_at columns a p c skip).n ≡ 0) × ((plan_at columns a p c skip).skip ≡ skip)
   unfolding field_plan
   none_planned c skip e = rw e (zero-sub skip, sub-zero skip)
 
-  filled_skip : (n c skip at : ℕ) (ys : List Cell) → chosen p.choice c ≡ false
+  filled_skip : (n c skip at : ℕ) (ys : List Cell) → chosen p.cursor.choice c ≡ false
       → filled columns a p c (n - c) skip at ys ≡ filled columns a p (suc c) (n - suc c) skip at ys
   filled_skip n c skip at ys e =
       either (ltb c n)
@@ -65,7 +65,7 @@ module _ (columns : List Column) (a : List ℕ) (p : RowPlan) where
       let q : n - c ≡ 0 = omega (arith, ltb-false c n t) in
       let r : n - suc c ≡ 0 = omega (arith, ltb-false c n t) in rw (q, r, filled_none c skip at ys, filled_none (suc c) skip at ys))
 
-  fits_skip : (n c skip at m : ℕ) → chosen p.choice c ≡ false → RowFits columns a p c (n - c) skip at m → RowFits columns a p (suc c) (n - suc c) skip at m
+  fits_skip : (n c skip at m : ℕ) → chosen p.cursor.choice c ≡ false → RowFits columns a p c (n - c) skip at m → RowFits columns a p (suc c) (n - suc c) skip at m
   fits_skip n c skip at m e h =
       either (ltb c n)
       (λ t.
@@ -74,12 +74,12 @@ module _ (columns : List Column) (a : List ℕ) (p : RowPlan) where
       rw (f.0, f.1, add-zero at) at (fits_more c (n - suc c) skip at m (rw q at h)).1)
       (λ t. let q : n - suc c ≡ 0 = omega (arith, ltb-false c n t) in rw q (fits_none (suc c) skip at m))
 
-  module _ (n skip at c j : ℕ) (is : j ≡ next_chosen p.choice c) where
+  module _ (n skip at c j : ℕ) (is : j ≡ next_chosen p.cursor.choice c) where
     pub filled_next : (ys : List Cell) → filled columns a p c (n - c) skip at ys ≡ filled columns a p j (n - j) skip at ys
     filled_next ys =
         rw is
-        (to_next p.choice (λ (i : ℕ). filled columns a p c (n - c) skip at ys ≡ filled columns a p i (n - i) skip at ys)
+        (to_next p.cursor.choice (λ (i : ℕ). filled columns a p c (n - c) skip at ys ≡ filled columns a p i (n - i) skip at ys)
         (λ i e q. q ∙ filled_skip n i skip at ys e) c refl)
 
     pub fits_next : (m : ℕ) → RowFits columns a p c (n - c) skip at m → RowFits columns a p j (n - j) skip at m
-    fits_next m h = rw is (to_next p.choice (λ (i : ℕ). RowFits columns a p i (n - i) skip at m) (λ i e q. fits_skip n i skip at m e q) c h)
+    fits_next m h = rw is (to_next p.cursor.choice (λ (i : ℕ). RowFits columns a p i (n - i) skip at m) (λ i e q. fits_skip n i skip at m e q) c h)

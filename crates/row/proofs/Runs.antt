@@ -14,6 +14,7 @@ use Rattle.refusal.specs.declared.Refusal.{Refusal}
 use Rattle.refusal.specs.declared.Refusal.TheVariants as R
 use Rattle.layout.specs.Layout.{columns_ok, layout_ok}
 use Rattle.bintable.specs.Entry.{accepted, entry}
+use Rattle.bintable.proofs.Kept.{parsed_entry}
 use Rattle.cell.specs.declared.DataValue.TheVariants as D
 use Rattle.cell.specs.declared.Cell.{Cell}
 use Rattle.cell.specs.Item.{word, item}
@@ -23,7 +24,7 @@ use Rattle.walk.specs.declared.Stepped.{Stepped}
 use Rattle.walk.specs.Plain.{field_of, cell_of, cells, entries_of, chosen, column_entries, columns_entries, row_entries}
 use Rattle.walk.specs.Walk.{Step, read_cell, read_row, seek, Reply, got_cell, got_row, sought, refused, gather, place_ok, walk_step}
 use Rattle.walk.specs.Walk as W
-use Rattle.walk.specs.Step.{fits, choice_ok, belongs, cursor_at, Selection, choice_of, Opening, opened, not_opened, open_with, opening_of, StepResult, with_cursor, cursor_step, run, plain_walk, cell_result, row_result, seek_result}
+use Rattle.walk.specs.Step.{fits, choice_ok, belongs, cursor_at, Selection, choice_of, opened, not_opened, open_with, opening_of, StepResult, with_cursor, cursor_step, run, plain_walk, cell_result, row_result, seek_result}
 use Rattle.walk.specs.Agree.{Agree, Counted, SameSteps}
 use Rattle.walk.proofs.Answers.{cell_answer, row_answer, seek_answer, answer_stands, opening_decides}
 use Rattle.walk.proofs.Isolation.{isolation}
@@ -129,8 +130,8 @@ pub runs_isolated : (h a b : List ℕ) (sel : Selection) (heap : Bool) (la lb : 
     → Agree la a b (choice_of la sel) heap
     → Isolated la lb a b sel heap oa ob
 runs_isolated h a b sel heap la lb oa ob entry_a entry_b opened_a opened_b agree =
-    let ea : entry h a ≡ accepted la = sym entry_a in
-    let eb : entry h b ≡ accepted lb = sym entry_b in
+    let ea : entry h a ≡ accepted la = parsed_entry h a la entry_a in
+    let eb : entry h b ≡ accepted lb = parsed_entry h b lb entry_b in
     let layouts : la ≡ lb = (isolation h a b sel heap [] la lb ea eb agree).0 in
     let openings : opening_of oa ≡ opening_of ob = opened_a ∙ (isolation h a b sel heap [] la lb ea eb agree).1.0 ∙ sym opened_b in
     record {

@@ -1,16 +1,16 @@
 -- A row read that stores by its plan is the step: the plan's fields lie in the list, and the list then holds what the walk says.
 -- Assumes nothing.
 use Rattle.std.specs.Prelude.{Option}
-use Prim.Native.Nat.{ℕ, zero, suc, ◌+◌, ◌*◌, ◌≤◌, ◌<◌, ◌^◌}
+use Prim.Native.Nat.{ℕ, zero, suc, ◌+◌, ◌-◌, ◌*◌, ◌≤◌, ◌<◌, ◌^◌}
 use mathlib.Core.Path.{◌≡◌, refl, sym, ap, ◌∙◌}
-use mathlib.Core.Bool.{true}
+use mathlib.Core.Bool.{true, false}
 use mathlib.Core.List.{List, [], ◌∷◌, ◌++◌, append_assoc}
 use native.Mathlib.Nat.{sub-zero, mul-le-mul_right}
 use native.Mathlib.Omega.{arith}
 use lib.ListN.{length, get_or, set, drop, length-append, length-drop}
 use lib.Seq.{drop-nil, drop-cons, drop-drop, set_at}
 use lib.Dec.{leb, ltb}
-use borrow.Author.Tests.{leb-true, ltb-true}
+use borrow.Author.Tests.{leb-true, ltb-true, ltb-false}
 use Rattle.ascii.proofs.Cases.{by_test}
 use Rattle.layout.specs.declared.Column.{Column}
 use Rattle.layout.specs.declared.BinTable.{BinTable}
@@ -29,7 +29,6 @@ use Rattle.walk.specs.Step.{belongs, state_of, StepResult, with_cursor, cursor_s
 use Rattle.walk.proofs.Inside.{fits_layout, limits, column_in_row, row_in_main, data_bound, items_bound}
 use Rattle.walk.proofs.Laws.{from_row}
 use Rattle.walk.proofs.Steps.{belongs_fits}
-use Rattle.row.specs.declared.plan.FieldKind.{FieldKind}
 use Rattle.row.specs.declared.plan.RowPlan.{RowPlan}
 use Rattle.row.specs.Plan.{result_of, plan_of, field_plan, is_outside, planned_cell, PlanOk, stored_at, filled, RowFits, left_of, plan_for, rest_plan, row_plan}
 use Rattle.row.proofs.Fields.{by_both, cells_from, cells_length, cells_before, cells_more, before_all, field_on, column_gathered}
@@ -70,12 +69,12 @@ stored_on f n cs fill d pre zs h =
 
 -- ---- the plan of a field
 
--- the places of a field whose place is a number of 64 bits, and whose items lie inside the data, are such numbers
-field_ok : (r c : ℕ) (column : Column) (kind : FieldKind) (p skip : ℕ) (f : Field) → p < 2 ^ 64 → ItemsInside data_limit f → PlanOk (plan_of r c column kind p skip f)
-field_ok r c column kind p skip (F.Items ty at n) l h = λ i q.
+-- the places of a field whose items lie inside the data are numbers of 64 bits
+field_ok : (r c : ℕ) (column : Column) (skip : ℕ) (f : Field) → ItemsInside data_limit f → is_outside (plan_of r c column skip f) ≡ false → PlanOk (plan_of r c column skip f)
+field_ok r c column skip (F.Items ty at n) h e = λ i q.
     let m : skip + i ≤ n = omega (arith, q) in omega (arith, h, mul-le-mul_right (width ty) m)
-field_ok r c column kind p skip (F.Descriptor v) l h = λ i q. let e : skip + i ≡ 0 = omega (arith, q) in rw e (omega (arith, l))
-field_ok r c column kind p skip F.OutsideHeap l h = λ i q. let e : skip + i ≡ 0 = omega (arith, q) in rw e (omega arith)
+field_ok r c column skip (F.Descriptor v) h e = omega arith
+field_ok r c column skip F.OutsideHeap h e = omega (arith, ltb-false 0 (1 - skip) e)
 
 -- ---- the columns, one after the other
 
@@ -113,20 +112,21 @@ module _ (l : BinTable) (a : List ℕ) (c : TableData) (s : Stepped (Option ℕ)
     pub start_fits : (k : ℕ) → k < l.tfields → c.row * l.naxis1 + (column_of l k).start < 2 ^ 64
     start_fits k h = omega (arith, column_in_row l ok k h, row_in_main l ok c.row hr, data_bound l ok)
 
-    plan_ok : (k skip : ℕ) → k < l.tfields → PlanOk (field_on l a c s k skip)
+    plan_ok : (k skip : ℕ) → k < l.tfields → is_outside (field_on l a c s k skip) ≡ false → PlanOk (field_on l a c s k skip)
     unfolding field_plan field_of
     plan_ok k skip h =
-        by_test PlanOk (chosen c.choice k) (λ t. field_ok _ _ _ _ _ skip (field_of l a c.heap c.row k) (start_fits k h) (items_bound l ok a c.heap c.row k hr h))
-        (λ t i q. absurd (omega (arith, q)))
+        by_test (λ (f : Field). is_outside (plan_of c.row k (column_of l k) skip f) ≡ false → PlanOk (plan_of c.row k (column_of l k) skip f)) (chosen c.choice k)
+        (λ t. field_ok c.row k (column_of l k) skip (field_of l a c.heap c.row k) (items_bound l ok a c.heap c.row k hr h))
+        (λ t e i q. absurd (omega (arith, q)))
 
-    fits_on : (k m skip : ℕ) (g : Gathered) → k < l.tfields → Fits (suc k) m (field_on l a c s k skip).skip g
+    fits_on : (k m skip : ℕ) (g : Gathered) → k < l.tfields → is_outside (field_on l a c s k skip) ≡ false → Fits (suc k) m (field_on l a c s k skip).skip g
         → Fits k (suc m) skip (before_all (cells_from (planned_cell a (field_on l a c s k skip)) 0 (field_on l a c s k skip).n) g)
     unfolding RowFits
-    fits_on k m skip (all_cells cs) h d = λ i n q.
+    fits_on k m skip (all_cells cs) h t d = λ i n q.
         let f = field_on l a c s k skip in
         let e = cells_before (planned_cell a f) f.n cs in
-        (start_fits k h, (plan_ok k skip h, (omega (arith, e, q), d (i + f.n) n (omega (arith, e, q)))))
-    fits_on k m skip (outside j) h d = tt
+        (start_fits k h, (plan_ok k skip h t, (omega (arith, e, q), d (i + f.n) n (omega (arith, e, q)))))
+    fits_on k m skip (outside j) h t d = tt
 
     all_fit : (m k skip : ℕ) → k + m ≤ l.tfields → Fits k m skip (gathered k m skip)
     unfolding columns_entries RowFits gather
@@ -135,18 +135,18 @@ module _ (l : BinTable) (a : List ℕ) (c : TableData) (s : Stepped (Option ℕ)
         rw (column_gathered l a c s k skip (columns_entries l a c.choice c.heap c.row (suc k) m))
         (let p = (field_on l a c s k skip).skip in
         by_test (Fits k (suc m) skip) (is_outside (field_on l a c s k skip)) (λ t. tt)
-        (λ t. fits_on k m skip (gathered (suc k) m p) (omega (arith, h)) (all_fit m (suc k) p (omega (arith, h)))))
+        (λ t. fits_on k m skip (gathered (suc k) m p) (omega (arith, h)) t (all_fit m (suc k) p (omega (arith, h)))))
 
 -- ---- the plan of a row
 
 module _ (l : BinTable) (a : List ℕ) (c : TableData) (list : List Cell) where
   -- the list after the fields of a plan
   abbrev done : RowPlan → List Cell
-  done p = filled l.columns a p 0 p.tfields p.passed 0 list
+  done p = filled l.columns a p 0 p.tfields p.cursor.passed 0 list
 
   -- what the row read by a plan comes to, and that the plan can be followed
   abbrev Follows : RowPlan → StepResult → Type 0
-  Follows p r = (result_of p.stepped (done p) ≡ r) × ((p.tfields ≤ 64) × RowFits l.columns a p 0 p.tfields p.passed 0 (length list))
+  Follows p r = (result_of p.stepped (done p) ≡ r) × ((p.tfields ≤ 64) × RowFits l.columns a p 0 p.tfields p.cursor.passed 0 (length list))
 
   -- a plan that goes over all columns
   follows_all : layout_ok l ≡ true → (cs : List Cell) → length cs ≤ length list
@@ -191,8 +191,8 @@ module _ (l : BinTable) (a : List ℕ) (c : TableData) (list : List Cell) where
   pub plan_columns : (row_plan l a c (length list)).tfields ≤ 64
   plan_columns = follows.1.0
 
-  pub plan_fits : RowFits l.columns a (row_plan l a c (length list)) 0 (row_plan l a c (length list)).tfields (row_plan l a c (length list)).passed 0 (length list)
+  pub plan_fits : RowFits l.columns a (row_plan l a c (length list)) 0 (row_plan l a c (length list)).tfields (row_plan l a c (length list)).cursor.passed 0 (length list)
   plan_fits = follows.1.1
 
-  pub plan_stored : result_of (row_plan l a c (length list)).stepped (filled l.columns a (row_plan l a c (length list)) 0 (row_plan l a c (length list)).tfields (row_plan l a c (length list)).passed 0 list) ≡ cursor_step l a c (read_row list)
+  pub plan_stored : result_of (row_plan l a c (length list)).stepped (filled l.columns a (row_plan l a c (length list)) 0 (row_plan l a c (length list)).tfields (row_plan l a c (length list)).cursor.passed 0 list) ≡ cursor_step l a c (read_row list)
   plan_stored = follows.0

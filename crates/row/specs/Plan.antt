@@ -1,92 +1,76 @@
 -- What a row read decides before it stores a cell, and what the list then holds: the plan of a field, the plan of a row, and the list after the fields' cells
 -- are stored one after the other. The calls' contracts are not stated by these; proofs/Stored shows that a row read by its plan is the step of walk/specs/Step.
 -- Assumes nothing.
-use Rattle.std.specs.Prelude.{ℕ, zero, suc, ◌+◌, ◌-◌, ◌*◌, ◌≤◌, ◌<◌, ◌^◌, Bool, false, cond, List, [], length, get_or, set, leb, ltb, Option, Some, None, Result, Ok, Err}
+use Rattle.std.specs.Prelude.{ℕ, zero, suc, ◌+◌, ◌-◌, ◌*◌, ◌≤◌, ◌<◌, ◌≡◌, ◌^◌, Bool, false, cond, List, [], length, get_or, set, leb, ltb, Option, Some, None, Result, Ok, Err}
 use Rattle.tform.specs.declared.VariableArrayTy.{VariableArrayTy}
 use Rattle.tform.specs.declared.VariableArrayTy.TheVariants.{L}
-use Rattle.tform.specs.declared.TFormType.{TFormType}
-use Rattle.tform.specs.declared.TFormType.TheVariants as T
 use Rattle.layout.specs.declared.Column.{Column}
 use Rattle.layout.specs.declared.BinTable.{BinTable}
 use Rattle.refusal.specs.declared.Refusal.{Refusal}
 use Rattle.refusal.specs.declared.Refusal.TheVariants as R
-use Rattle.layout.specs.Layout.{no_column, data_size}
+use Rattle.layout.specs.Layout.{no_column}
 use Rattle.cell.specs.declared.Cell.{Cell}
 use Rattle.cell.specs.declared.DataValue.{DataValue}
 use Rattle.cell.specs.declared.DataValue.TheVariants as D
 use Rattle.cell.specs.declared.Field.{Field}
 use Rattle.cell.specs.declared.Field.TheVariants as F
-use Rattle.cell.specs.Item.{word, width, item}
-use Rattle.cell.specs.Field.{field}
+use Rattle.cell.specs.Item.{width}
+use Rattle.cell.specs.Field.{no_items, field, size_of}
 use Rattle.walk.specs.declared.TableData.{TableData}
 use Rattle.walk.specs.declared.Stepped.{Stepped}
-use Rattle.walk.specs.Plain.{cell_of, chosen, row_entries}
+use Rattle.walk.specs.Plain.{cell_of, item_at, chosen, row_entries}
 use Rattle.walk.specs.Walk.{read_row, placed, grown, Gathered, all_cells, outside, rest}
 use Rattle.walk.specs.Step.{belongs, state_of, cursor_at, StepResult, row_result}
+use Rattle.table.specs.Scan.{heap_of}
 use Rattle.row.specs.declared.plan.RowPlan.{RowPlan}
-use Rattle.row.specs.declared.plan.FieldKind.{FieldKind}
-use Rattle.row.specs.declared.plan.FieldKind.TheVariants as K
 use Rattle.row.specs.declared.plan.FieldPlan.{FieldPlan}
 
 -- ---- a field
 
--- the value of an entry at place p: an item, a descriptor that is not followed, or an array outside the heap, of which no cell is ever stored
-abbrev pub entry_value : Column → List ℕ → FieldKind → VariableArrayTy → ℕ → DataValue
-entry_value column a K.Items ty p = item column ty a p
-entry_value column a K.Descriptor32 ty p = D.VariableLengthArray32 (word a p 4) (word a (p + 4) 4)
-entry_value column a K.Descriptor64 ty p = D.VariableLengthArray64 (word a p 8) (word a (p + 8) 8)
-entry_value column a K.OutsideHeap ty p = D.Bit 0
+-- the value of the entry at index i of a field: an item, a descriptor that is not followed, or an array outside the heap, of which no cell is ever stored
+abbrev pub entry_value : Column → List ℕ → Field → ℕ → DataValue
+entry_value column a (F.Items ty at n) i = item_at column a ty at i
+entry_value column a (F.Descriptor v) i = v
+entry_value column a F.OutsideHeap i = D.Bit 0
 
--- the cell at index i of a field of row r and column c that lies from byte `at` on. A descriptor has the index 0 alone
-abbrev pub cell_in : Column → List ℕ → ℕ → ℕ → FieldKind → VariableArrayTy → ℕ → ℕ → Cell
-cell_in column a r c kind ty at i = cell_of r c i (entry_value column a kind ty (at + i * width ty))
-
--- what is left of a field of this size after `skip` entries
-abbrev pub field_from : ℕ → ℕ → Column → FieldKind → VariableArrayTy → ℕ → ℕ → ℕ → FieldPlan
-field_from r c column kind ty at size skip =
-    record { row = r; c = c; column = column; kind = kind; ty = ty; at = at; first = skip; n = size - skip; skip = skip - size }
-
--- the kind of a form's descriptor; items have none
-abbrev pub descriptor_kind : TFormType → FieldKind
-descriptor_kind (T.Items ty) = K.OutsideHeap
-descriptor_kind (T.P ty) = K.Descriptor32
-descriptor_kind (T.Q ty) = K.Descriptor64
-
--- the plan of a field at place p; its descriptor, if it has one, is of this kind. The type matters at items alone
-abbrev pub plan_of : ℕ → ℕ → Column → FieldKind → ℕ → ℕ → Field → FieldPlan
-plan_of r c column kind p skip (F.Items ty at n) = field_from r c column K.Items ty at n skip
-plan_of r c column kind p skip (F.Descriptor v) = field_from r c column kind L p 1 skip
-plan_of r c column kind p skip F.OutsideHeap = field_from r c column K.OutsideHeap L 0 1 skip
+-- what is left of the field of row r and column c after `skip` entries
+abbrev pub plan_of : ℕ → ℕ → Column → ℕ → Field → FieldPlan
+plan_of r c column skip f = record { row = r; c = c; column = column; field = f; first = skip; n = size_of f - skip; skip = skip - size_of f }
 
 -- the plan of the field of column c. A column that is not chosen has no entry, so its field is never looked at
 unfoldable pub field_plan : List ℕ → RowPlan → Column → ℕ → ℕ → FieldPlan
 field_plan a p column c skip =
-    let at = p.start + column.start in
-    cond (chosen p.choice c)
-    (plan_of p.row c column (descriptor_kind column.form) at skip (field a at column p.heap p.theap p.end))
-    (field_from p.row c column K.OutsideHeap L 0 0 skip)
+    plan_of p.cursor.row c column skip
+    (cond (chosen p.cursor.choice c) (field a (p.start + column.start) column p.heap.followed p.heap.start p.heap.end) (no_items L))
 
 -- a field that has an entry left is an array outside the heap
-abbrev pub outside_by : FieldKind → ℕ → Bool
-outside_by K.Items k = false
-outside_by K.Descriptor32 k = false
-outside_by K.Descriptor64 k = false
-outside_by K.OutsideHeap k = ltb 0 k
+abbrev pub outside_by : Field → ℕ → Bool
+outside_by (F.Items ty at n) k = false
+outside_by (F.Descriptor v) k = false
+outside_by F.OutsideHeap k = ltb 0 k
 
 abbrev pub is_outside : FieldPlan → Bool
-is_outside p = outside_by p.kind p.n
+is_outside p = outside_by p.field p.n
 
--- cell i of a field's plan
+-- cell i of a field's plan, and of one of items that lie from byte `start` on
 abbrev pub planned_cell : List ℕ → FieldPlan → ℕ → Cell
-planned_cell a p i = cell_in p.column a p.row p.c p.kind p.ty p.at (p.first + i)
+planned_cell a p i = cell_of p.row p.c (p.first + i) (entry_value p.column a p.field (p.first + i))
 
--- the place of cell i is a number of 64 bits
-abbrev pub PlaceFits : FieldPlan → ℕ → Type 0
-PlaceFits p i = p.at + (p.first + i) * width p.ty < 2 ^ 64
+abbrev pub item_cell : List ℕ → FieldPlan → VariableArrayTy → ℕ → ℕ → Cell
+item_cell a p ty start i = cell_of p.row p.c (p.first + i) (item_at p.column a ty start (p.first + i))
 
--- so is that of each of its cells
+-- the places of the items with n indexes from `first` on are numbers of 64 bits
+abbrev pub ItemsFit : VariableArrayTy → ℕ → ℕ → ℕ → Type 0
+ItemsFit ty start first n = (i : ℕ) → i < n → start + (first + i) * width ty < 2 ^ 64
+
+-- so are those of a plan's items; of a descriptor there is one cell, at index 0, and of an array outside the heap none
+abbrev pub FieldOk : Field → ℕ → ℕ → Type 0
+FieldOk (F.Items ty start k) first n = ItemsFit ty start first n
+FieldOk (F.Descriptor v) first n = n ≤ 1
+FieldOk F.OutsideHeap first n = n ≡ 0
+
 abbrev pub PlanOk : FieldPlan → Type 0
-PlanOk p = (i : ℕ) → i < p.n → PlaceFits p i
+PlanOk p = FieldOk p.field p.first p.n
 
 -- ---- the list
 
@@ -132,19 +116,15 @@ abbrev pub plan_for : BinTable → TableData → Stepped (Option ℕ) → RowPla
 plan_for l c s =
     record {
       tfields = l.tfields;
-      choice = c.choice;
-      heap = c.heap;
-      row = c.row;
-      passed = c.passed;
+      cursor = c;
       start = c.row * l.naxis1;
-      theap = l.theap;
-      end = data_size l;
+      heap = heap_of l c.heap;
       stepped = s;
     }
 
 -- the plan that stores nothing and leaves the cursor where it is
 abbrev pub no_plan : TableData → Result (Option ℕ) Refusal → RowPlan
-no_plan c r = record { tfields = 0; choice = 0; heap = false; row = 0; passed = 0; start = 0; theap = 0; end = 0; stepped = stepped c r }
+no_plan c r = record { tfields = 0; cursor = c; start = 0; heap = record { followed = false; start = 0; end = 0 }; stepped = stepped c r }
 
 -- the cursor at the next row's start, with n more cells counted
 abbrev pub next_row : TableData → ℕ → TableData

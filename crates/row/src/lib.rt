@@ -6,6 +6,7 @@ pub mod owners;
 mod plan;
 
 ghost use Rattle.std.specs.Prelude.{◌≡◌};
+ghost use Rattle.walk.specs.declared.Stepped.{Stepped};
 ghost use Rattle.walk.specs.Walk.{read_cell, read_row, seek};
 ghost use Rattle.walk.specs.Step.{cursor_step, cell_result, row_result, seek_result};
 
@@ -14,16 +15,18 @@ use layout::BinTable;
 use refusal::Refusal;
 use walk::{Stepped, TableData};
 
-// The row read: what is left of the row to the front of the list, and the next row's start. The answer is the
-// number of cells, none at the end, or a refusal: 10 as for every step, 13 at an array outside the heap, 14 if the list is
+// The row read: what is left of the row to the front of the list, and the next row's start. The answer is the number
+// of cells, none at the end, or a refusal: 10 as for every step, 13 at an array outside the heap, 14 if the list is
 // too short. A refusal returns the cursor that it got and leaves the list as it was.
+#[tactic(auto, using(crate::proofs::Stored::plan_columns, crate::proofs::Stored::plan_fits, crate::proofs::Stored::plan_stored))]
 pub fn read_row(
     layout: BinTable,
     area: &[u8],
     cursor: TableData,
     list: &mut [Cell],
 ) -> Stepped<Option<u64>>
-    ensures { row_result result.cursor result.answer list.new ≡ cursor_step layout area.now cursor (read_row list.old) }
+    ensures { row_result result.cursor result.answer list.new
+        ≡ cursor_step layout area.now cursor (read_row list.old) }
 {
     let plan = plan::row_plan(layout, area, cursor, list.len());
     let columns = plan::columns(layout);
@@ -31,13 +34,24 @@ pub fn read_row(
     plan.stepped
 }
 
+// A step over a lent cursor.
+fn lent<T: Copy, F: FnOnce(TableData) -> Stepped<T>>(
+    cursor: &mut TableData,
+    step: F,
+) -> Result<T, Refusal>
+    requires { F.pre step cursor.old }
+    ensures { (out : Stepped T) × F.post step cursor.old out × (cursor.new ≡ out.cursor) × (result ≡ out.answer) }
+{
+    let out = step(*cursor);
+    *cursor = out.cursor;
+    out.answer
+}
+
 // The cell read over a lent cursor, which is moved for its owner.
 pub fn next(cursor: &mut TableData, layout: BinTable, area: &[u8]) -> Result<Option<Cell>, Refusal>
     ensures { cell_result cursor.new result ≡ cursor_step layout area.now cursor.old read_cell }
 {
-    let out = table::next(layout, area, *cursor);
-    *cursor = out.cursor;
-    out.answer
+    lent(cursor, |own| table::next(layout, area, own))
 }
 
 // The row read over a lent cursor.
@@ -49,6 +63,7 @@ pub fn next_row(
 ) -> Result<Option<u64>, Refusal>
     ensures { row_result cursor.new result list.new ≡ cursor_step layout area.now cursor.old (read_row list.old) }
 {
+    // Not by `lent`: of the list that the closure would borrow nothing is known after the call.
     let out = read_row(layout, area, *cursor, list);
     *cursor = out.cursor;
     out.answer
@@ -63,7 +78,5 @@ pub fn seek_to_row(
 ) -> Result<(), Refusal>
     ensures { seek_result cursor.new result ≡ cursor_step layout area.now cursor.old (seek row) }
 {
-    let out = table::seek_to_row(layout, area, *cursor, row);
-    *cursor = out.cursor;
-    out.answer
+    lent(cursor, |own| table::seek_to_row(layout, area, own, row))
 }

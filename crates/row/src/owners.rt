@@ -1,5 +1,5 @@
 // The owner of a list of cells, which a row read is lent: for a caller that has none of its own.
-ghost use Rattle.std.specs.Prelude.{◌≡◌, get_or, min};
+ghost use Rattle.std.specs.Prelude.{◌≡◌, get_or};
 ghost use Rattle.walk.specs.Step.{row_result};
 ghost use Rattle.row.specs.Owned.{own_read};
 
@@ -18,13 +18,6 @@ pub struct RowCell {
     pub cell: Cell,
 }
 
-// The smaller of two numbers.
-fn at_most(n: usize, limit: usize) -> usize
-    ensures { result ≡ min n limit }
-{
-    if n < limit { n } else { limit }
-}
-
 // The row read, with a cursor and a list of its own that are lent for it: n cells, 512 at most, all of them `filler`
 // before. Cell k of it afterwards, `filler` if there is none.
 pub fn row_cell(
@@ -35,16 +28,17 @@ pub fn row_cell(
     n: usize,
     k: usize,
 ) -> RowCell
-    ensures step { row_result result.stepped.cursor result.stepped.answer (own_read layout area.now cursor filler n).list
+    ensures step { row_result result.stepped.cursor result.stepped.answer
+        (own_read layout area.now cursor filler n).list
         ≡ own_read layout area.now cursor filler n }
     ensures cell { result.cell ≡ get_or (own_read layout area.now cursor filler n).list k filler }
 {
     let mut own = cursor;
     // One cell more than is lent at most, so that there is one that is not stored to.
-    let mut list = [filler; 513];
-    let len = at_most(n, LIST_LIMIT);
+    let mut list = [filler; LIST_LIMIT + 1];
+    let len = n.min(LIST_LIMIT);
     let answer = super::next_row(&mut own, layout, area, &mut list[..len]);
-    let i = at_most(k, LIST_LIMIT);
+    let i = k.min(LIST_LIMIT);
     let cell = list[i];
     let stepped = Stepped {
         cursor: own,

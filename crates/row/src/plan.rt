@@ -1,53 +1,41 @@
 // What a row read does, decided before it stores a cell: its answer, the cursor after it, and which cells each
 // field gives.
 ghost use Rattle.std.specs.Prelude.{◌≡◌, true, ◌+◌, ◌<◌, ◌^◌};
-ghost use Rattle.layout.specs.Layout.{naxis2_limit, layout_ok};
+ghost use Rattle.layout.specs.Layout.{naxis2_limit};
+ghost use Rattle.cell.specs.Field.{field};
 ghost use Rattle.walk.specs.Plain.{chosen, row_entries};
 ghost use Rattle.walk.specs.Walk.{rest};
-ghost use Rattle.walk.specs.Step.{fits, state_of};
-ghost use Rattle.row.specs.Plan.{field_from, descriptor_kind, plan_of, field_plan, is_outside, left_of, plan_for, no_plan, next_row, rest_plan, row_plan};
+ghost use Rattle.walk.specs.Step.{state_of};
+ghost use Rattle.row.specs.Plan.{plan_of, field_plan, is_outside, left_of, plan_for, no_plan, next_row};
+ghost use Rattle.row.specs.Plan.{rest_plan, row_plan};
 
 use cell::Field;
 use layout::{BinTable, Column, TFIELDS_LIMIT};
 use refusal::Refusal;
-use tform::{TFormType, VariableArrayTy};
+use table::pass::{Heap, Sizes};
+use table::{RowSpan, TableRow};
+use tform::TFormType;
 use walk::{Stepped, TableData};
 
-// The plan of a row: how many columns are gone over, none at the end and at a refusal; the choice, heap setting and
-// place of the cursor; where the row starts, where the heap starts and ends; and what the row read returns.
+// The plan of a row: how many columns are gone over, none at the end and at a refusal; the cursor that it starts from;
+// where the row starts, and the heap; and what the row read returns.
 #[derive(Clone, Copy)]
 pub struct RowPlan {
     pub tfields: usize,
-    pub choice: u64,
-    pub heap: bool,
-    pub row: u64,
-    pub passed: u64,
+    pub cursor: TableData,
     pub start: u64,
-    pub theap: u64,
-    pub end: u64,
+    pub heap: Heap,
     pub stepped: Stepped<Option<u64>>,
 }
 
-// What the entries of a field are: items, a descriptor of 32-bit or of 64-bit numbers that is not followed, or an
-// array outside the heap.
-#[derive(Clone, Copy)]
-pub enum FieldKind {
-    Items,
-    Descriptor32,
-    Descriptor64,
-    OutsideHeap,
-}
-
-// The plan of a field: n cells from the index `first` on, of items that lie from byte `at` on, or of a descriptor
-// there. Of the later fields `skip` entries are still to be passed.
+// The plan of a field: n cells from the index `first` on, of what the field stands for. Of the later fields `skip`
+// entries are still to be passed.
 #[derive(Clone, Copy)]
 pub struct FieldPlan {
     pub row: u64,
     pub c: usize,
     pub column: Column,
-    pub kind: FieldKind,
-    pub ty: VariableArrayTy,
-    pub at: u64,
+    pub field: Field,
     pub first: u64,
     pub n: usize,
     pub skip: u64,
@@ -60,146 +48,83 @@ pub fn columns(layout: BinTable) -> [Column; TFIELDS_LIMIT]
     layout.columns
 }
 
-// The cells of a field of this size that are left after the first `skip` entries.
-fn field_from(
-    row: u64,
-    c: usize,
-    column: Column,
-    kind: FieldKind,
-    ty: VariableArrayTy,
-    at: u64,
-    size: u64,
-    skip: u64,
-) -> FieldPlan
-    ensures { result ≡ field_from row c column kind ty at size skip }
+// The cells of a field that are left after the first `skip` entries.
+fn plan_of(row: u64, c: usize, column: Column, skip: u64, field: Field) -> FieldPlan
+    ensures { result ≡ plan_of row c column skip field }
 {
-    if skip < size {
-        return FieldPlan {
-            row,
-            c,
-            column,
-            kind,
-            ty,
-            at,
-            first: skip,
-            n: (size - skip) as usize,
-            skip: 0,
-        };
-    }
+    let size = cell::field_size(field);
     FieldPlan {
         row,
         c,
         column,
-        kind,
-        ty,
-        at,
+        field,
         first: skip,
-        n: 0,
-        skip: skip - size,
+        n: size.saturating_sub(skip) as usize,
+        skip: skip.saturating_sub(size),
     }
 }
 
-// The plan of a field. Its descriptor, if it has one, is of this kind and lies at this place.
-fn descriptor_plan(
-    row: u64,
-    c: usize,
-    column: Column,
-    kind: FieldKind,
-    at: u64,
-    field: Field,
-    skip: u64,
-) -> FieldPlan
-    ensures { result ≡ plan_of row c column kind at skip field }
+// The field of a column of the row. It calls `cell::read_field` and not `Heap::field`: with one caller left the
+// former is compiled into the latter, which then stands apart, and cell reads of 41 columns take 45 % more
+// instructions.
+fn field_at(area: &[u8], plan: RowPlan, column: Column) -> Field
+    requires { plan.start + column.start < 2 ^ 64 }
+    ensures { result ≡ field area.now (plan.start + column.start) column plan.heap.followed plan.heap.start
+        plan.heap.end }
 {
-    match field {
-        Field::Items { ty, at: start, n } => {
-            field_from(row, c, column, FieldKind::Items, ty, start, n, skip)
-        }
-        Field::Descriptor(_) => field_from(row, c, column, kind, VariableArrayTy::L, at, 1, skip),
-        Field::OutsideHeap => {
-            let outside = FieldKind::OutsideHeap;
-            field_from(row, c, column, outside, VariableArrayTy::L, 0, 1, skip)
-        }
-    }
+    let Heap {
+        followed,
+        start,
+        end,
+    } = plan.heap;
+    cell::read_field(
+        area,
+        plan.start + column.start,
+        column,
+        followed,
+        start,
+        end,
+    )
 }
 
-// The plan of the field of column c, which is chosen, where `skip` entries are still to be passed.
+// The plan of the field of column c, which is chosen, where `skip` entries are still to be passed. The loop that
+// stores is its only caller, so that it is compiled into it (docs/SPEED.md).
+#[tactic(auto, unfolding(crate::specs::Plan::field_plan, cell::specs::Field::field))]
 pub fn field_plan(area: &[u8], plan: RowPlan, column: Column, c: usize, skip: u64) -> FieldPlan
-    requires { (chosen plan.choice c ≡ true) × (plan.start + column.start < 2 ^ 64) }
+    requires { (chosen plan.cursor.choice c ≡ true) × (plan.start + column.start < 2 ^ 64) }
     ensures { result ≡ field_plan area.now plan column c skip }
 {
-    let at = plan.start + column.start;
-    let form = column.form;
-    match form {
-        TFormType::Items(ty) => {
-            let size = tform::item_count(ty, column.count as u64);
-            field_from(plan.row, c, column, FieldKind::Items, ty, at, size, skip)
-        }
-        TFormType::P(_) => {
-            let kind = FieldKind::Descriptor32;
-            let field = cell::read_field(area, at, column, plan.heap, plan.theap, plan.end);
-            descriptor_plan(plan.row, c, column, kind, at, field, skip)
-        }
-        TFormType::Q(_) => {
-            let kind = FieldKind::Descriptor64;
-            let field = cell::read_field(area, at, column, plan.heap, plan.theap, plan.end);
-            descriptor_plan(plan.row, c, column, kind, at, field, skip)
-        }
-    }
-}
-
-// The kind of a form's descriptor; a form of items has none.
-fn descriptor_kind(form: TFormType) -> FieldKind
-    ensures { result ≡ descriptor_kind form }
-{
-    match form {
-        TFormType::Items(_) => FieldKind::OutsideHeap,
-        TFormType::P(_) => FieldKind::Descriptor32,
-        TFormType::Q(_) => FieldKind::Descriptor64,
-    }
-}
-
-// A twin of `field_plan`, for `rest_of`, kept for speed (docs/SPEED.md): so `field_plan` has one caller, the loop
-// that stores, and is compiled into it.
-fn judged_plan(area: &[u8], plan: RowPlan, column: Column, c: usize, skip: u64) -> FieldPlan
-    requires { (chosen plan.choice c ≡ true) × (plan.start + column.start < 2 ^ 64) }
-    ensures { result ≡ field_plan area.now plan column c skip }
-{
-    let at = plan.start + column.start;
-    let form = column.form;
-    let kind = descriptor_kind(form);
-    let field = cell::read_field(area, at, column, plan.heap, plan.theap, plan.end);
-    descriptor_plan(plan.row, c, column, kind, at, field, skip)
+    let field = match column.form {
+        TFormType::Items(ty) => Field::Items {
+            ty,
+            at: plan.start + column.start,
+            n: tform::item_count(ty, column.count as u64),
+        },
+        TFormType::P(_) | TFormType::Q(_) => field_at(area, plan, column),
+    };
+    plan_of(plan.cursor.row, c, column, skip, field)
 }
 
 // Whether a field that has an entry left is an array outside the heap.
 fn is_outside(plan: FieldPlan) -> bool
     ensures { result ≡ is_outside plan }
 {
-    let kind = plan.kind;
-    match kind {
-        FieldKind::Items => false,
-        FieldKind::Descriptor32 => false,
-        FieldKind::Descriptor64 => false,
-        FieldKind::OutsideHeap => 0 < plan.n,
+    match plan.field {
+        Field::Items { .. } | Field::Descriptor(_) => false,
+        Field::OutsideHeap => 0 < plan.n,
     }
 }
 
-// The plan of the cursor's row that goes over all columns.
-fn plan_for(layout: BinTable, cursor: TableData, stepped: Stepped<Option<u64>>) -> RowPlan
-    requires { (layout_ok layout ≡ true) × (cursor.row < layout.naxis2) }
-    ensures { result ≡ plan_for layout cursor stepped }
+// The plan of a row that goes over all columns.
+fn plan_for(row: &TableRow, stepped: Stepped<Option<u64>>) -> RowPlan
+    ensures { result ≡ plan_for row.now.layout.now row.now.cursor stepped }
 {
-    let main = layout.naxis1 * layout.naxis2;
+    let RowSpan { start, heap } = row.span();
     RowPlan {
-        tfields: layout.tfields,
-        choice: cursor.choice,
-        heap: cursor.heap,
-        row: cursor.row,
-        passed: cursor.passed,
-        start: cursor.row * layout.naxis1,
-        theap: layout.theap,
-        end: main + layout.pcount,
+        tfields: row.layout.tfields,
+        cursor: row.cursor,
+        start,
+        heap,
         stepped,
     }
 }
@@ -210,41 +135,40 @@ fn no_plan(cursor: TableData, answer: Result<Option<u64>, Refusal>) -> RowPlan
 {
     RowPlan {
         tfields: 0,
-        choice: 0,
-        heap: false,
-        row: 0,
-        passed: 0,
+        cursor,
         start: 0,
-        theap: 0,
-        end: 0,
+        heap: Heap {
+            followed: false,
+            start: 0,
+            end: 0,
+        },
         stepped: Stepped { cursor, answer },
     }
 }
 
 // What is left of the cursor's row.
-fn rest_of(layout: BinTable, area: &[u8], cursor: TableData) -> Result<u64, Refusal>
-    requires { (fits layout area.now ≡ true) × (cursor.row < layout.naxis2) }
-    ensures { result ≡ left_of (rest (row_entries layout area.now cursor.choice cursor.heap) layout.naxis2
-        (state_of cursor)) }
+fn rest_of(row: &TableRow) -> Result<u64, Refusal>
+    ensures { result
+        ≡ left_of (rest (row_entries row.now.layout.now row.now.area.now row.now.cursor.choice row.now.cursor.heap)
+        row.now.layout.now.naxis2 (state_of row.now.cursor)) }
 {
     // What the row read returns is not known yet, and the plan of a field does not look at it.
     let stepped = Stepped {
-        cursor,
+        cursor: row.cursor,
         answer: Ok(None),
     };
-    let plan = plan_for(layout, cursor, stepped);
+    let plan = plan_for(row, stepped);
     let mut total: u64 = 0;
-    let mut skip = cursor.passed;
-    let mut c = table::pass::next_chosen(plan.choice, 0);
-    while c < layout.tfields {
-        let column = layout.columns[c];
-        let planned = judged_plan(area, plan, column, c, skip);
+    let mut skip = row.cursor.passed;
+    for c in table::pass::chosen_columns(plan.cursor.choice, row.layout.tfields) {
+        let column = row.layout.columns[c];
+        let field = field_at(row.area, plan, column);
+        let planned = plan_of(plan.cursor.row, c, column, skip, field);
         if is_outside(planned) {
             return Err(Refusal::ArrayOutsideHeap { column: c });
         }
         total += planned.n as u64;
         skip = planned.skip;
-        c = table::pass::next_chosen(plan.choice, c + 1);
     }
     Ok(total)
 }
@@ -254,46 +178,46 @@ fn at_next_row(cursor: TableData, n: u64) -> TableData
     requires { cursor.row < naxis2_limit }
     ensures { result ≡ next_row cursor n }
 {
-    let mut next = cursor;
-    next.row = cursor.row + 1;
-    next.passed = 0;
-    next.count = walk::counted(cursor.count, n);
-    next
+    TableData {
+        row: cursor.row + 1,
+        passed: 0,
+        count: walk::counted(cursor.count, n),
+        ..cursor
+    }
 }
 
 // The plan for what is left of the cursor's row and a list of `room` cells.
-fn rest_plan(
-    layout: BinTable,
-    cursor: TableData,
-    rest: Result<u64, Refusal>,
-    room: usize,
-) -> RowPlan
-    requires { (layout_ok layout ≡ true) × (cursor.row < layout.naxis2) }
-    ensures { result ≡ rest_plan layout cursor room rest }
+fn rest_plan(row: &TableRow, rest: Result<u64, Refusal>, room: usize) -> RowPlan
+    ensures { result ≡ rest_plan row.now.layout.now row.now.cursor room rest }
 {
     match rest {
-        Err(refusal) => no_plan(cursor, Err(refusal)),
+        Err(refusal) => no_plan(row.cursor, Err(refusal)),
         Ok(n) => {
             if (room as u64) < n {
-                return no_plan(cursor, Err(Refusal::ShortList { cells: n }));
+                return no_plan(row.cursor, Err(Refusal::ShortList { cells: n }));
             }
             let stepped = Stepped {
-                cursor: at_next_row(cursor, n),
+                cursor: at_next_row(row.cursor, n),
                 answer: Ok(Some(n)),
             };
-            plan_for(layout, cursor, stepped)
+            plan_for(row, stepped)
         }
     }
 }
 
 // The plan of a row read, whatever the row, the place and the cursor are.
+#[tactic(auto, using(walk::proofs::Steps::belongs_fits, walk::proofs::Inside::fits_layout), unfolding(crate::specs::Plan::row_plan))]
 fn any_plan(layout: BinTable, area: &[u8], cursor: TableData, room: usize) -> RowPlan
     ensures { result ≡ row_plan layout area.now cursor room }
 {
     if table::belongs(layout, area, cursor) {
         if cursor.row < layout.naxis2 {
-            let rest = rest_of(layout, area, cursor);
-            return rest_plan(layout, cursor, rest, room);
+            let row = TableRow {
+                layout: &layout,
+                area,
+                cursor,
+            };
+            return rest_plan(&row, rest_of(&row), room);
         }
         return no_plan(cursor, Ok(None));
     }
@@ -301,41 +225,49 @@ fn any_plan(layout: BinTable, area: &[u8], cursor: TableData, room: usize) -> Ro
 }
 
 // The plan of a row read into a list of `room` cells. One pass over the columns plans a row without descriptors
-// from its start; all else is left to `any_plan`.
+// from its start; all else is left to `any_plan`, by which alone a row of 41 columns takes 1.4 times the instructions.
 pub fn row_plan(layout: BinTable, area: &[u8], cursor: TableData, room: usize) -> RowPlan
     ensures { result ≡ row_plan layout area.now cursor room }
 {
     if cursor.passed != 0 {
         return any_plan(layout, area, cursor, room);
     }
-    if !table::pass::ready(
-        layout.naxis1,
-        layout.naxis2,
-        layout.pcount,
-        layout.theap,
-        layout.tfields,
-        area.len() as u64,
-        cursor.choice,
-        cursor.row,
-    ) {
+    let BinTable {
+        naxis1,
+        naxis2,
+        pcount,
+        theap,
+        tfields,
+        ..
+    } = layout;
+    let sizes = Sizes {
+        naxis1,
+        naxis2,
+        pcount,
+        theap,
+        tfields,
+    };
+    if !table::pass::ready(sizes, area.len() as u64, cursor) {
         return any_plan(layout, area, cursor, room);
     }
     let mut at: u64 = 0;
     let mut cells: u64 = 0;
-    let mut c: usize = 0;
-    while c < layout.tfields {
+    for c in 0..tfields {
         let column = layout.columns[c];
         let is_chosen = table::chosen(cursor.choice, c);
         if !table::pass::plain_in_order(column, at, is_chosen) {
             return any_plan(layout, area, cursor, room);
         }
-        let form = column.form;
-        at += tform::num_bytes_field(form, column.count);
+        at += tform::num_bytes_field(column.form, column.count);
         cells += table::pass::item_cells(column, is_chosen);
-        c += 1;
     }
-    if at == layout.naxis1 {
-        return rest_plan(layout, cursor, Ok(cells), room);
+    if at == naxis1 {
+        let row = TableRow {
+            layout: &layout,
+            area,
+            cursor,
+        };
+        return rest_plan(&row, Ok(cells), room);
     }
     any_plan(layout, area, cursor, room)
 }

@@ -1,15 +1,23 @@
--- The lines of a text, the parts of a line and the line feeds, taken from the front.
+-- The lines of a text, the parts of a line and the line feeds, taken from the front and as the library's chains give
+-- them.
 -- Assumes nothing.
-use mathlib.Core.Path.{◌≡◌, refl, ap, ◌∙◌}
+use Rattle.std.specs.Prelude.{count_by}
+use Rattle.std.proofs.lemmas.List.Folds.{length-prefix_len}
+use Rattle.std.specs.declared.slice.Split.{Split}
+use Rattle.std.specs.Slice.Iter.{split_done, split_rest}
+use Rattle.std.specs.Bool.{MatchBool}
+use Rattle.std.specs.List.{All, IsFirstMatchOrLen, prefix_len, take_while, slice_split, onto_first}
+use Rattle.std.proofs.lemmas.List.Recursion.{is_count_by}
+use Rattle.std.proofs.lemmas.Grind.{common_steps}
+use Rattle.std.proofs.lemmas.List.Splits.{slice_split_none, slice_split_at}
+use mathlib.Core.Path.{◌≡◌, refl, sym, ap, subst, ◌∙◌}
 use mathlib.Core.List.{List, [], ◌∷◌, ◌++◌}
-use mathlib.Core.Bool.{not, cond}
+use mathlib.Core.Bool.{Bool, true, false, not, cond}
 use Prim.Native.Nat.{ℕ, suc, ◌+◌, ◌≤◌, ◌<◌}
-use native.Mathlib.Numerals.{add-one}
 use native.Mathlib.Omega.{arith}
-use lib.ListN.{length, take, drop, get_or, length-drop, drop_of_length-le}
-use lib.Seq.{length-take-le, drop-drop, drop-cons, take-add}
-use lib.Dec.{eqb, ltb, leb, leb-suc-suc}
-use borrow.Author.Tests.{lt-ltb, le-leb, lt-leb, ltb-true, ltb-false, ne_eqb}
+use lib.ListN.{get_or, length, take, drop, length-drop, drop_of_length-le}
+use lib.Seq.{length-take-le, drop-drop, take-add}
+use lib.Dec.{eqb}
 use Rattle.ascii.specs.Text.{front}
 use Rattle.ascii.proofs.Cases.{either}
 use Rattle.ascii.proofs.Front.{front_le}
@@ -23,14 +31,6 @@ first_line (b ∷ []) h = either (eqb b 10) (λ e. rw e) (λ e. rw e)
 first_line (b ∷ c ∷ cs) h =
     either (eqb b 10) (λ e. rw e) (λ e. rw e (ap (prepend b) (first_line (c ∷ cs) (omega arith))))
 
--- the first part of a line, and the parts after its space
-pub first_part : (s : List ℕ) → parts s ≡ take (before 32 s) s ∷ cond (ltb (before 32 s) (length s)) (parts (drop (suc (before 32 s)) s)) []
-unfolding parts front
-first_part [] = refl
-first_part (b ∷ bs) =
-    either (eqb b 32) (λ e. rw (e, lt-ltb 0 (suc (length bs)) (omega arith)))
-    (λ e. rw (e, leb-suc-suc (suc (before 32 bs)) (length bs)) (ap (prepend b) (first_part bs)))
-
 feeds_append : (s t : List ℕ) → line_feeds (s ++ t) ≡ line_feeds s + line_feeds t
 unfolding line_feeds
 feeds_append [] t = omega arith
@@ -43,10 +43,6 @@ unfolding line_feeds front
 first_feed [] h = absurd (omega arith)
 first_feed (b ∷ bs) h = either (eqb b 10) (λ e. rw e) (λ e. rw e (first_feed bs (let m = rw e at h in omega arith)))
 
--- the parts from a place of a line on; none past its end
-abbrev pub parts_from : List ℕ → ℕ → List (List ℕ)
-parts_from s at = cond (leb at (length s)) (parts (drop at s)) []
-
 -- from a place of the text on
 module _ (s : List ℕ) (at : ℕ) where
   pub line_inside : at < length s → at + before 10 (drop at s) ≤ length s
@@ -54,9 +50,6 @@ module _ (s : List ℕ) (at : ℕ) where
 
   pub line_length : at < length s → length (line_at s at) ≡ before 10 (drop at s)
   line_length h = length-take-le (before 10 (drop at s)) (drop at s) (rw (length-drop at s) (omega (arith, line_inside h)))
-
-  pub part_inside : at ≤ length s → at + before 32 (drop at s) ≤ length s
-  part_inside h = omega (arith, front_le (λ (b : ℕ). not (eqb b 32)) (drop at s), length-drop at s)
 
   after : (n : ℕ) → drop (suc n) (drop at s) ≡ drop (at + n + 1) s
   after n = let e : at + suc n ≡ at + n + 1 = omega arith in drop-drop (suc n) at s ∙ ap (λ (k : ℕ). drop k s) e
@@ -70,18 +63,6 @@ module _ (s : List ℕ) (at : ℕ) where
   unfolding lines_of
   lines_none h = rw (drop_of_length-le s h)
 
-  pub parts_next : at ≤ length s → parts_from s at ≡ take (before 32 (drop at s)) (drop at s) ∷ parts_from s (at + before 32 (drop at s) + 1)
-  parts_next h =
-      let n = before 32 (drop at s) in
-      rw (le-leb at (length s) h)
-      (first_part (drop at s)
-      ∙ either (ltb n (length (drop at s)))
-      (λ e. rw (e, le-leb (at + n + 1) (length s) (omega (arith, ltb-true n (length (drop at s)) e, length-drop at s)), after n))
-      (λ e. rw (e, lt-leb (at + n + 1) (length s) (omega (arith, ltb-false n (length (drop at s)) e, length-drop at s)))))
-
-  pub parts_end : length s < at → parts_from s at ≡ []
-  parts_end h = rw (lt-leb at (length s) h)
-
   pub feeds_next : at + before 10 (drop at s) < length s → line_feeds (take (at + before 10 (drop at s) + 1) s) ≡ line_feeds (take at s) + 1
   feeds_next h =
       let n = before 10 (drop at s) in
@@ -89,18 +70,53 @@ module _ (s : List ℕ) (at : ℕ) where
       rw (e, take-add at (suc n) s) (feeds_append (take at s) (take (suc n) (drop at s))
       ∙ ap (λ (k : ℕ). line_feeds (take at s) + k) (first_feed (drop at s) (omega (arith, length-drop at s))))
 
-  -- the line feeds of a text, counted byte by byte
-  pub feeds_more : at < length s → get_or s at 0 ≡ 10 → line_feeds (drop at s) ≡ line_feeds (drop (at + 1) s) + 1
-  unfolding line_feeds
-  feeds_more h e = rw (add-one (line_feeds (drop (at + 1) s)), add-one at, drop-cons s at 0 h, e)
+-- what the library's chains over the bytes give
+front_prefix : (p : ℕ → Bool) (s : List ℕ) → prefix_len p s ≡ front p s
+unfolding front
+front_prefix p [] = refl
+front_prefix p (b ∷ bs) = rw (front_prefix p bs) (ap (λ (n : ℕ). cond (p b) n 0) (omega arith))
 
-  pub feeds_other : at < length s → (get_or s at 0 ≡ 10 → ⊥) → line_feeds (drop at s) ≡ line_feeds (drop (at + 1) s)
-  unfolding line_feeds
-  feeds_other h e = rw (add-one at, drop-cons s at 0 h, ne_eqb (get_or s at 0) 10 e)
+-- as many as `take_while` takes
+pub front_taken : (p : ℕ → Bool) (s : List ℕ) → length (take_while p s) ≡ front p s
+front_taken p s = length-prefix_len p s ∙ front_prefix p s
 
-  pub feeds_end : length s ≤ at → line_feeds (drop at s) ≡ 0
-  unfolding line_feeds
-  feeds_end h = rw (drop_of_length-le s h)
+-- a line lies within its text
+pub before_within : (e n : ℕ) (s : List ℕ) → n ≡ before e s → n ≡ length (take n s)
+before_within e n s h = sym (length-take-le n s (omega (arith, h, front_le (λ (b : ℕ). not (eqb b e)) s)))
 
-pub parts_whole : (s : List ℕ) → parts_from s 0 ≡ parts s
-parts_whole s = rw (le-leb 0 (length s) (omega arith))
+pub feeds_count : (s : List ℕ) → count_by (λ (b : ℕ). eqb b 10) s ≡ line_feeds s
+unfolding line_feeds
+feeds_count s =
+    sym (is_count_by line_feeds (λ (b : ℕ). eqb b 10) refl
+    (λ b bs. either (eqb b 10) (λ t. rw t (omega arith)) (λ t. rw t)) s)
+
+-- a byte in front of the first part, as the library says it
+put_first : (b : ℕ) (ps : List (List ℕ)) → onto_first b ps ≡ prepend b ps
+put_first b [] = refl
+put_first b (p ∷ ps) = refl
+
+pub parts_split : (s : List ℕ) → slice_split (λ (b : ℕ). eqb b 32) s ≡ parts s
+unfolding parts
+parts_split [] = refl
+parts_split (b ∷ bs) = either (eqb b 32) (λ t. rw (t, parts_split bs)) (λ t. rw (t, parts_split bs) (put_first b (parts bs)))
+
+-- the parts that the library's walk over them has yet to give
+abbrev pub parts_left : {F : Type 0} → Split ℕ F → List (List ℕ)
+parts_left t = cond (split_done t) [] (parts (split_rest t))
+
+-- a part that ends at the first space, or at the end of the text
+part_given : (s x rest : List ℕ) (done : Bool) → MatchBool done (s ≡ x) ((y : ℕ) × (s ≡ x ++ (y ∷ rest)))
+    → IsFirstMatchOrLen (λ (b : ℕ). eqb b 32) s (length x) → parts s ≡ x ∷ cond done [] (parts rest)
+part_given s x rest true e h =
+    sym (parts_split s) ∙ ap (slice_split (λ (b : ℕ). eqb b 32)) e
+    ∙ slice_split_none (λ (b : ℕ). eqb b 32) x (λ k d l. subst (λ ys. eqb (get_or ys k d) 32 ≡ false) e (h.0 k d (omega arith) l))
+part_given s x rest false e h =
+    let front : All (λ z. eqb z 32 ≡ false) x = λ k d l. let a = h.0 k d (omega arith) l in let b = e.1 in grind (arith, common_steps) in
+    let hit : eqb e.0 32 ≡ true = let b = e.1 in let a = h.1 (grind (arith, common_steps)) e.0 in grind (arith, common_steps) in
+    sym (parts_split s) ∙ ap (slice_split (λ (b : ℕ). eqb b 32)) e.1 ∙ slice_split_at (λ (b : ℕ). eqb b 32) x e.0 rest front hit
+    ∙ ap (λ ps. x ∷ ps) (parts_split rest)
+
+pub left_next : {F : Type 0} (s t : Split ℕ F) (x : List ℕ) → split_done s ≡ false
+    → MatchBool (split_done t) (split_rest s ≡ x) ((y : ℕ) × (split_rest s ≡ x ++ (y ∷ split_rest t)))
+    → IsFirstMatchOrLen (λ (b : ℕ). eqb b 32) (split_rest s) (length x) → parts_left s ≡ x ∷ parts_left t
+left_next s t x d e h = rw d (part_given (split_rest s) x (split_rest t) (split_done t) e h)

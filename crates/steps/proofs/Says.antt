@@ -1,24 +1,31 @@
 -- What a line can say: a row read's list is short, and which lines choose indexes.
 -- Assumes nothing.
-use Rattle.std.specs.Prelude.{Option, Some, None}
+use Rattle.std.specs.Prelude.{Option, Some, None, Bool, ◌&&◌}
+use Rattle.std.specs.Cmp.Lexicographic.{pointwise}
 use mathlib.Core.Path.{◌≡◌, refl, sym, ap, subst, ◌∙◌}
-use mathlib.Core.List.{List, [], ◌++◌}
+use mathlib.Core.List.{List, [], ◌∷◌, ◌++◌}
 use mathlib.Core.Bool.{true, false}
-use Prim.Native.Nat.{ℕ, ◌-◌, ◌≤◌}
-use native.Mathlib.Omega.{arith}
-use lib.ListN.{length, take, drop, length-take, take-append-drop}
-use lib.Dec.{leb}
+use Prim.Native.Nat.{ℕ, ◌≤◌}
+use lib.ListN.{take, drop, take-append-drop}
+use lib.Dec.{eqb, leb}
 use borrow.Author.Tests.{leb-true}
 use Rattle.ascii.specs.Text.{bytes, same, front}
 use Rattle.ascii.proofs.Cases.{by_test, either}
-use Rattle.ascii.proofs.Parts.{part_from}
 use Rattle.ascii.proofs.Same.{same_true}
 use Rattle.steps.specs.declared.Command.{Command}
 use Rattle.steps.specs.declared.Command.TheVariants as C
 use Rattle.steps.specs.Split.{parts}
 use Rattle.ascii.specs.Number.{number}
 use Rattle.steps.specs.Numbers.{Numbers, all_of, not_all, numbers}
-use Rattle.steps.specs.Line.{Says, row, row_by, seek_by, choose_by, is, begins, says, command_of, indexes_of}
+use Rattle.steps.specs.Line.{Says, row_by, seek_by, choose_by, is, begins, says, command_of, indexes_of}
+
+-- the library's `==` of two slices
+pub same_pointwise : (xs ys : List ℕ) → pointwise eqb xs ys ≡ same xs ys
+unfolding same
+same_pointwise [] [] = refl
+same_pointwise [] (y ∷ ys) = refl
+same_pointwise (x ∷ xs) [] = refl
+same_pointwise (x ∷ xs) (y ∷ ys) = ap (λ (b : Bool). eqb x y && b) (same_pointwise xs ys)
 
 -- the bound of a row's cells
 abbrev RowOk : Option Command → Type 0
@@ -57,26 +64,6 @@ row_ok s =
 pub row_few : (s : List ℕ) (n : ℕ) → command_of (says s) ≡ Some (C.Row n) → n ≤ 512
 row_few s n e = subst RowOk e (row_ok s)
 
-pub row_says_few : (s : List ℕ) (n : ℕ) → says s ≡ row n → n ≤ 512
-row_says_few s n e = row_few s n (ap command_of e)
-
-module _ (s : List ℕ) where
-  -- a word that a line begins with lies within it
-  word_inside : (w : List ℕ) → same (take (length w) s) w ≡ true → length w ≤ length s
-  word_inside w e = let h = simp length-take at (ap length (same_true (take (length w) s) w e)) in omega arith
-
-  pub row_inside : begins "row " s ≡ true → 4 ≤ length s
-  unfolding bytes
-  row_inside e = word_inside (bytes "row ") e
-
-  pub seek_inside : begins "seek " s ≡ true → 5 ≤ length s
-  unfolding bytes
-  seek_inside e = word_inside (bytes "seek ") e
-
-  pub choose_inside : begins "choose " s ≡ true → 7 ≤ length s
-  unfolding bytes
-  choose_inside e = word_inside (bytes "choose ") e
-
 -- the indexes of a line that begins as a choice
 chosen_all : (t : List ℕ) → same t (bytes "all") ≡ true → indexes_of (choose_by (numbers (parts t))) ≡ []
 unfolding bytes numbers number parts front
@@ -93,10 +80,6 @@ module _ (s : List ℕ) where
       ap (λ (l : List ℕ). indexes_of (says l))
       (sym (take-append-drop 7 s) ∙ ap (λ (l : List ℕ). l ++ drop 7 s) (same_true (take 7 s) (bytes "choose ") e))
       ∙ chosen_is (drop 7 s)
-
-  -- the same of the part of the line that the code takes
-  pub indexes_part : begins "choose " s ≡ true → indexes_of (says s) ≡ indexes_of (choose_by (numbers (parts (take (length s - 7) (drop 7 s)))))
-  indexes_part e = rw (part_from s 7) (indexes_choose e)
 
   rows_none : (f : Option ℕ) → indexes_of (row_by f) ≡ []
   rows_none (Some n) = by_test (λ (x : Says). indexes_of x ≡ []) (leb n 512) (λ _. refl) (λ _. refl)

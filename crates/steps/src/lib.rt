@@ -2,13 +2,13 @@
 #![tactic(auto)]
 
 mod numbers;
-mod words;
 
 ghost use Rattle.std.specs.Prelude.{◌≡◌, true, false, cond, drop};
 ghost use Rattle.steps.specs.Split.{before, line_at, line_feeds, parts};
 ghost use Rattle.ascii.specs.Number.{number};
 ghost use Rattle.steps.specs.Numbers.{numbers};
-ghost use Rattle.steps.specs.Line.{says, row_by, seek_by, choose_all, choose_by, heap, bad, is, begins, command_of, indexes_of, in_places};
+ghost use Rattle.steps.specs.Line.{says, row_by, seek_by, choose_all, choose_by, heap, bad, is, begins};
+ghost use Rattle.steps.specs.Line.{command_of, indexes_of, in_places};
 
 // The byte that ends a line.
 const LINE_FEED: u8 = b'\n';
@@ -31,47 +31,40 @@ pub enum Command {
 pub fn line_len(text: &[u8]) -> usize
     ensures { result ≡ before 10 text.now }
 {
-    words::bytes_before(text, LINE_FEED)
+    text.iter().take_while(|byte| **byte != LINE_FEED).count()
 }
 
 // The line that begins at a place of a text, without its line feed; empty where the text has no such place.
+#[tactic(auto, using(crate::proofs::Lines::before_within))]
 pub fn line_at(text: &[u8], at: usize) -> &[u8]
     ensures { result.now ≡ line_at text.now at }
 {
-    if text.len() <= at {
-        return &text[0..0];
-    }
-    let end = at + line_len(&text[at..]);
-    &text[at..end]
+    let rest = text.get(at..).unwrap_or(&[]);
+    &rest[..line_len(rest)]
 }
 
 // How many line feeds a text has.
+#[tactic(auto, using(crate::proofs::Lines::feeds_count))]
 pub fn line_feeds(text: &[u8]) -> usize
     ensures { result ≡ line_feeds text.now }
 {
-    let mut count: usize = 0;
-    let mut i: usize = 0;
-    while i < text.len() {
-        if text[i] == LINE_FEED {
-            count += 1;
-        }
-        i += 1;
-    }
-    count
+    text.iter().filter(|byte| **byte == LINE_FEED).count()
 }
 
-// What a line says.
+// What a line says. In a `match` on the words the last arm comes by 35 ways, which no answer goes through, and `==`
+// takes no array beside a slice.
+#[tactic(auto, using(crate::proofs::Says::same_pointwise), unfolding(ascii::specs::Text::bytes, crate::specs::Line::says))]
 pub fn parse_command(line: &[u8]) -> Option<Command>
     ensures { result ≡ command_of (says line.now) }
 {
     if ascii::same_bytes(line, b"cell") {
         return Some(Command::Cell);
     }
-    if ascii::begins_with(line, b"row ") {
-        return row_command(&line[4..]);
+    if let Some(cells) = line.strip_prefix(b"row ") {
+        return row_command(cells);
     }
-    if ascii::begins_with(line, b"seek ") {
-        return seek_command(&line[5..]);
+    if let Some(row) = line.strip_prefix(b"seek ") {
+        return seek_command(row);
     }
     other_command(line)
 }
@@ -80,12 +73,8 @@ pub fn parse_command(line: &[u8]) -> Option<Command>
 fn row_command(text: &[u8]) -> Option<Command>
     ensures { result ≡ command_of (row_by (number text.now)) }
 {
-    let n = ascii::digits::parse_number(text)?;
-    if n <= ROW_LIMIT {
-        Some(Command::Row(n))
-    } else {
-        None
-    }
+    let cells = ascii::digits::parse_number(text)?;
+    (cells <= ROW_LIMIT).then_some(Command::Row(cells))
 }
 
 // `seek` with this after it.
@@ -96,6 +85,7 @@ fn seek_command(text: &[u8]) -> Option<Command>
 }
 
 // A line that is no `cell`, `row` or `seek`.
+#[tactic(auto, using(crate::proofs::Says::same_pointwise), unfolding(ascii::specs::Text::bytes))]
 fn other_command(line: &[u8]) -> Option<Command>
     ensures { result ≡ command_of (cond (is "choose all" line.now) choose_all
         (cond (begins "choose " line.now) (choose_by (numbers (parts (drop 7 line.now))))
@@ -104,8 +94,8 @@ fn other_command(line: &[u8]) -> Option<Command>
     if ascii::same_bytes(line, b"choose all") {
         return Some(Command::ChooseAll);
     }
-    if ascii::begins_with(line, b"choose ") {
-        return choose_command(&line[7..]);
+    if let Some(indexes) = line.strip_prefix(b"choose ") {
+        return choose_command(indexes);
     }
     heap_command(line)
 }
@@ -114,14 +104,11 @@ fn other_command(line: &[u8]) -> Option<Command>
 fn choose_command(text: &[u8]) -> Option<Command>
     ensures { result ≡ command_of (choose_by (numbers (parts text.now))) }
 {
-    if numbers::all_numbers(text) {
-        return Some(Command::Choose);
-    }
-    None
+    numbers::all_numbers(text).then_some(Command::Choose)
 }
 
 // A line that is none of the others.
-#[tactic(auto, unfolding(ascii::specs::Text::bytes))]
+#[tactic(auto, using(crate::proofs::Says::same_pointwise), unfolding(ascii::specs::Text::bytes))]
 fn heap_command(line: &[u8]) -> Option<Command>
     ensures { result ≡ command_of (cond (is "heap on" line.now) (heap true)
         (cond (is "heap off" line.now) (heap false) bad)) }
@@ -140,12 +127,9 @@ fn heap_command(line: &[u8]) -> Option<Command>
 pub fn place_indexes(line: &[u8], list: &mut [usize])
     ensures { list.new ≡ in_places list.old (indexes_of (says line.now)) }
 {
-    if !ascii::begins_with(line, b"choose ") {
-        return;
+    if let Some(text) = line.strip_prefix(b"choose ") {
+        if numbers::all_numbers(text) {
+            numbers::place_numbers(text, list);
+        }
     }
-    let text = &line[7..];
-    if !numbers::all_numbers(text) {
-        return;
-    }
-    numbers::place_numbers(text, list);
 }

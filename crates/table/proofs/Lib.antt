@@ -1,3 +1,4 @@
+pub mod Columns
 pub mod NoItems
 pub mod Places
 pub mod Scanned

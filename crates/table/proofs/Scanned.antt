@@ -1,8 +1,9 @@
 -- One pass over the columns of a row: what it says after each column and after all, and that an entry that it found is the cell read's.
 -- Assumes nothing.
+use Rattle.std.specs.Prelude.{Option, Some, None}
 use Prim.Native.Nat.{ℕ, suc, ◌+◌, ◌-◌, ◌*◌, ◌≤◌, ◌<◌, ◌^◌}
-use mathlib.Core.Path.{◌≡◌, refl, sym, ◌∙◌}
-use mathlib.Core.Bool.{Bool, true, false, false≢true, cond, ◌&&◌, ◌||◌}
+use mathlib.Core.Path.{◌≡◌, refl, ◌∙◌}
+use mathlib.Core.Bool.{Bool, true, false, cond, ◌&&◌, ◌||◌}
 use mathlib.Core.List.{List}
 use native.Mathlib.Nat.{mul-le-mul_right, mul-le-mul_left}
 use native.Mathlib.Numerals.{add-one}
@@ -27,7 +28,12 @@ use Rattle.walk.specs.Step.{fits, choice_ok, belongs, state_of, with_cursor, cur
 use Rattle.walk.proofs.Laws.{from, from_row, from_end, length_from, at_here, at_later, size_chosen, next_here}
 use Rattle.walk.proofs.Steps.{cell_at}
 use Rattle.table.specs.declared.scan.Scan.{Scan}
-use Rattle.table.specs.Scan.{ready, after}
+use Rattle.table.specs.Scan.{sizes_of, ready, after}
+
+-- by what an option is
+by_option : {ℓ : Type 0} (x : Option ℕ) → ((k : ℕ) → x ≡ Some k → ℓ) → (x ≡ None → ℓ) → ℓ
+by_option (Some k) f g = f k refl
+by_option None f g = g refl
 
 -- row r of a layout with its 64 columns
 module _ (l : BinTable) (a : List ℕ) (choice : ℕ) (heap : Bool) (r : ℕ) where
@@ -73,11 +79,11 @@ module _ (l : BinTable) (a : List ℕ) (choice : ℕ) (heap : Bool) (r p : ℕ) 
   abbrev pub sought : Entry
   sought = get_or (from l a choice heap r 0) p (OutsideHeap 0)
 
-  -- it is entry `left` of the field of a column below c
-  abbrev pub FoundIn : ℕ → Scan → Type 0
-  FoundIn c s =
-      (p < s.size) × ((s.column < c) × ((s.left < size_of (field_of l a heap r s.column))
-      × (sought ≡ entry_in (column_of l s.column) a r s.column (field_of l a heap r s.column) s.left)))
+  -- it is entry `left` of the field of column k, below c
+  abbrev pub FoundIn : ℕ → ℕ → Scan → Type 0
+  FoundIn c k s =
+      (p < s.size) × ((k < c) × ((s.left < size_of (field_of l a heap r k))
+      × (sought ≡ entry_in (column_of l k) a r k (field_of l a heap r k) s.left)))
 
   -- it stands further on, after `left` entries more
   abbrev pub FurtherOn : ℕ → Scan → Type 0
@@ -86,15 +92,15 @@ module _ (l : BinTable) (a : List ℕ) (choice : ℕ) (heap : Bool) (r p : ℕ) 
   -- what the pass says after the first c columns
   pub record Scanned (c : ℕ) (s : Scan) : Type 0 where
     pub summed : Summed l a choice heap r c s.at s.size
-    pub found : s.found ≡ true → FoundIn c s
-    pub missing : s.found ≡ false → FurtherOn c s
+    pub found : (k : ℕ) → s.found ≡ Some k → FoundIn c k s
+    pub missing : s.found ≡ None → FurtherOn c s
 
-  pub scanned_none : (s : Scan) → s ≡ record { at = 0; size = 0; found = false; left = p; column = 0 } → Scanned 0 s
+  pub scanned_none : (s : Scan) → s ≡ record { at = 0; size = 0; left = p; found = None } → Scanned 0 s
   scanned_none s e =
       rw e
       record {
         summed = summed_none l a choice heap r;
-        found = λ q. absurd (false≢true q);
+        found = λ k q. cc;
         missing = λ q. (omega arith, refl);
       }
 
@@ -108,7 +114,7 @@ module _ (l : BinTable) (a : List ℕ) (choice : ℕ) (heap : Bool) (r p : ℕ) 
     sum : Summed l a choice heap r (suc c) (s.at + column_bytes (column_of l c)) (s.size + k)
     sum = summed_next l a choice heap r full c s.at s.size k h w.summed few count at sized
 
-    here : s.found ≡ false → s.left < k → FoundIn (suc c) (record { at = s.at + column_bytes (column_of l c); size = s.size + k; found = true; left = s.left; column = c })
+    here : s.found ≡ None → s.left < k → FoundIn (suc c) c (record { at = s.at + column_bytes (column_of l c); size = s.size + k; left = s.left; found = Some c })
     here e q =
         let m = w.missing e in
         let i : s.left < column_size l a choice heap r c = rw (← sized) q in (
@@ -119,7 +125,7 @@ module _ (l : BinTable) (a : List ℕ) (choice : ℕ) (heap : Bool) (r p : ℕ) 
           ),
         )
 
-    later : s.found ≡ false → k ≤ s.left → FurtherOn (suc c) (record { at = s.at + column_bytes (column_of l c); size = s.size + k; found = false; left = s.left - k; column = c })
+    later : s.found ≡ None → k ≤ s.left → FurtherOn (suc c) (record { at = s.at + column_bytes (column_of l c); size = s.size + k; left = s.left - k; found = None })
     later e q =
         let m = w.missing e in
         let i : column_size l a choice heap r c ≤ s.left = rw (← sized) q in
@@ -127,13 +133,13 @@ module _ (l : BinTable) (a : List ℕ) (choice : ℕ) (heap : Bool) (r p : ℕ) 
 
     pub scanned_next : Scanned (suc c) t
     scanned_next =
-        either s.found
-        (λ e.
+        by_option s.found
+        (λ j e.
         rw e
         record {
           summed = sum;
-          found = λ q. let f = w.found e in (omega (arith, f.0), (omega (arith, f.1.0), f.1.1));
-          missing = λ q. absurd (false≢true (sym q));
+          found = λ i q. let f = w.found i (e ∙ q) in (omega (arith, f.0), (omega (arith, f.1.0), f.1.1));
+          missing = λ q. cc;
         })
         (λ e.
         either (ltb s.left k)
@@ -141,14 +147,14 @@ module _ (l : BinTable) (a : List ℕ) (choice : ℕ) (heap : Bool) (r p : ℕ) 
         rw (e, b)
         record {
           summed = sum;
-          found = λ q. here e (ltb-true _ _ b);
-          missing = λ q. absurd (false≢true (sym q));
+          found = λ i q. let n : c ≡ i = cc in rw (← n) (here e (ltb-true _ _ b));
+          missing = λ q. cc;
         })
         (λ b.
         rw (e, b)
         record {
           summed = sum;
-          found = λ q. absurd (false≢true q);
+          found = λ i q. cc;
           missing = λ q. later e (ltb-false _ _ b);
         }))
 
@@ -172,10 +178,9 @@ and_l t u e = (both t u e).0
 and_r : (t u : Bool) → (t && u) ≡ true → u ≡ true
 and_r t u e = (both t u e).1
 
-pub ready_says : (l : BinTable) (a : List ℕ) (choice row : ℕ)
-    → ready l.naxis1 l.naxis2 l.pcount l.theap l.tfields (length a) choice row ≡ true → Ready l a choice row
+pub ready_says : (l : BinTable) (a : List ℕ) (u : TableData) → ready (sizes_of l) (length a) u ≡ true → Ready l a u.choice u.row
 unfolding ready
-ready_says l a choice row e =
+ready_says l a u e =
     record {
       row_bytes = search and_l depth 12;
       rows = search (and_l, and_r) depth 12;
@@ -248,15 +253,15 @@ or_true : (t : Bool) → (t || true) ≡ true
 or_true true = refl
 or_true false = refl
 
-module _ (l : BinTable) (a : List ℕ) (cursor : TableData) (s : Scan) (full : length (columns_of l) ≡ l.tfields)
+module _ (l : BinTable) (a : List ℕ) (cursor : TableData) (s : Scan) (k : ℕ) (full : length (columns_of l) ≡ l.tfields)
     (y : Ready l a cursor.choice cursor.row)
     (w : Scanned l a cursor.choice cursor.heap cursor.row cursor.passed l.tfields s) (ends : s.at ≡ l.naxis1)
-    (f : s.found ≡ true) where
+    (f : s.found ≡ Some k) where
   abbrev rows_of : ℕ → List Entry
   rows_of = row_entries l a cursor.choice cursor.heap
 
-  pub found_in : FoundIn l a cursor.choice cursor.heap cursor.row cursor.passed l.tfields s
-  found_in = w.found f
+  pub found_in : FoundIn l a cursor.choice cursor.heap cursor.row cursor.passed l.tfields k s
+  found_in = w.found k f
 
   pub found_fits : fits l a ≡ true
   found_fits = summed_fits l a cursor s.at s.size full y w.summed ends
@@ -276,9 +281,9 @@ module _ (l : BinTable) (a : List ℕ) (cursor : TableData) (s : Scan) (full : l
       (rw (lt-ltb cursor.passed (length (rows_of cursor.row)) inside) (or_true (eqb cursor.passed 0)))
 
   pub found_step : cursor_step l a cursor read_cell
-      ≡ with_cursor cursor.choice cursor.heap (entry_outcome (state_of cursor) s.size cursor.row cursor.passed (entry_in (column_of l s.column) a cursor.row s.column (field_of l a cursor.heap cursor.row s.column) s.left))
+      ≡ with_cursor cursor.choice cursor.heap (entry_outcome (state_of cursor) s.size cursor.row cursor.passed (entry_in (column_of l k) a cursor.row k (field_of l a cursor.heap cursor.row k) s.left))
   found_step =
-      let e : get_or (rows_of cursor.row) cursor.passed (OutsideHeap 0) ≡ entry_in (column_of l s.column) a cursor.row s.column (field_of l a cursor.heap cursor.row s.column) s.left = rw row_is found_in.1.1.1 in
+      let e : get_or (rows_of cursor.row) cursor.passed (OutsideHeap 0) ≡ entry_in (column_of l k) a cursor.row k (field_of l a cursor.heap cursor.row k) s.left = rw row_is found_in.1.1.1 in
       rw (← e, ← whole)
       (cell_at l a cursor found_belongs (entry_at cursor.row cursor.passed (get_or (rows_of cursor.row) cursor.passed (OutsideHeap 0)))
       (next_here rows_of l.naxis2 cursor.row cursor.passed (ready_row l a cursor.choice cursor.row y) inside))

@@ -1,2 +1,4 @@
+pub mod Chosen
 pub mod NextPlace
 pub mod Scan
+pub mod TableRow

@@ -1,15 +1,22 @@
 -- One pass over the columns of a cursor's row, as the code of the cell read and the row read has it. The steps' contracts are not stated by these;
 -- proofs/Scanned shows that an entry that a pass finds is the plain list's.
 -- Assumes nothing.
-use Rattle.std.specs.Prelude.{ℕ, zero, suc, ◌+◌, ◌-◌, ◌*◌, ◌^◌, Bool, true, false, cond, ◌&&◌, ◌||◌, eqb, leb, ltb}
+use Rattle.std.specs.Prelude.{ℕ, zero, suc, ◌+◌, ◌-◌, ◌*◌, ◌^◌, Bool, true, false, cond, ◌&&◌, ◌||◌, eqb, leb, ltb, Option, Some, None}
 use Rattle.tform.specs.declared.TFormType.{TFormType}
 use Rattle.tform.specs.declared.TFormType.TheVariants.{Items, P, Q}
 use Rattle.tform.specs.Width.{field_items}
 use Rattle.layout.specs.declared.Column.{Column}
 use Rattle.layout.specs.declared.BinTable.{BinTable}
-use Rattle.layout.specs.Layout.{naxis1_limit, naxis2_limit, pcount_limit, tfields_limit, column_bytes}
+use Rattle.layout.specs.Layout.{naxis1_limit, naxis2_limit, pcount_limit, tfields_limit, data_size, column_bytes}
+use Rattle.walk.specs.declared.TableData.{TableData}
 use Rattle.walk.specs.Plain.{column_of, chosen}
+use Rattle.table.specs.declared.pass.Heap.{Heap}
+use Rattle.table.specs.declared.pass.Sizes.{Sizes}
 use Rattle.table.specs.declared.scan.Scan.{Scan}
+
+-- the heap of a layout, on or off
+abbrev pub heap_of : BinTable → Bool → Heap
+heap_of l followed = record { followed = followed; start = l.theap; end = data_size l }
 
 -- the first chosen column of the k from c on, or the one after them
 unfoldable pub next_from : ℕ → ℕ → ℕ → ℕ
@@ -29,11 +36,18 @@ unfoldable pub any_items : BinTable → ℕ → ℕ → ℕ → Bool
 any_items l choice c zero = false
 any_items l choice c (suc k) = (chosen choice c && ltb 0 (items_in l c)) || any_items l choice (suc c) k
 
--- what a pass needs: a table of n1 bytes a row and n2 rows, PCOUNT, THEAP, n columns, an area of this length, a choice and a row
-unfoldable pub ready : ℕ → ℕ → ℕ → ℕ → ℕ → ℕ → ℕ → ℕ → Bool
-ready n1 n2 pcount theap n len choice row =
-    leb n1 naxis1_limit && (leb n2 naxis2_limit && (leb pcount pcount_limit && (leb n tfields_limit && (leb (n1 * n2) theap
-    && (leb theap (n1 * n2 + pcount) && (leb (n1 * n2 + pcount) len && (ltb row n2 && (ltb 0 choice && ltb choice (2 ^ n)))))))))
+-- the sizes of a layout
+abbrev pub sizes_of : BinTable → Sizes
+sizes_of l = record { naxis1 = l.naxis1; naxis2 = l.naxis2; pcount = l.pcount; theap = l.theap; tfields = l.tfields }
+
+-- what a pass needs: the limits and sums of a layout but for its columns, an area of this length, a row and a choice
+unfoldable pub ready : Sizes → ℕ → TableData → Bool
+ready s len u =
+    let main = s.naxis1 * s.naxis2 in
+    let end = main + s.pcount in
+    leb s.naxis1 naxis1_limit && (leb s.naxis2 naxis2_limit && (leb s.pcount pcount_limit && (leb s.tfields tfields_limit
+    && (leb main s.theap && (leb s.theap end && (leb end len
+    && (ltb u.row s.naxis2 && (ltb 0 u.choice && ltb u.choice (2 ^ s.tfields)))))))))
 
 -- a form and a count without a descriptor: items, or P or Q of count 0
 abbrev pub no_descriptor : TFormType → ℕ → Bool
@@ -45,13 +59,14 @@ no_descriptor (Q ty) n = eqb n 0
 abbrev pub plain_column : Column → Bool → Bool
 plain_column column is = cond is (no_descriptor column.form column.count) true
 
+-- the pass after column c, which has k entries, of which the bytes and entries so far are counted
+abbrev pub after_by : Option ℕ → ℕ → ℕ → ℕ → ℕ → ℕ → Scan
+after_by (Some f) at size left c k = record { at = at; size = size; left = left; found = Some f }
+after_by None at size left c k =
+    cond (ltb left k)
+    (record { at = at; size = size; left = left; found = Some c })
+    (record { at = at; size = size; left = left - k; found = None })
+
 -- the pass after column c, which has k entries
 abbrev pub after : Scan → Column → ℕ → ℕ → Scan
-after s column c k =
-    let at = s.at + column_bytes column in
-    let size = s.size + k in
-    cond s.found
-    (record { at = at; size = size; found = true; left = s.left; column = s.column })
-    (cond (ltb s.left k)
-    (record { at = at; size = size; found = true; left = s.left; column = c })
-    (record { at = at; size = size; found = false; left = s.left - k; column = c }))
+after s column c k = after_by s.found (s.at + column_bytes column) (s.size + k) s.left c k

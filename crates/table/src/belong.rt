@@ -4,21 +4,20 @@ ghost use Rattle.walk.specs.Plain.{row_entries};
 ghost use Rattle.walk.specs.Walk.{place_ok};
 ghost use Rattle.walk.specs.Step.{fits, belongs};
 
-use super::rows;
-use layout::BinTable;
+use super::rows::TableRow;
+use layout::{BinTable, TFIELDS_LIMIT};
 use walk::TableData;
 
 // The layout keeps every limit and sum, and the data area is long enough.
+#[tactic(auto, using(walk::proofs::Inside::data_bound), unfolding(walk::specs::Step::fits))]
 pub fn fits(layout: BinTable, area: &[u8]) -> bool
     ensures { result ≡ fits layout area.now }
 {
-    if layout::layout_ok(layout) {
-        return layout.naxis1 * layout.naxis2 + layout.pcount <= area.len() as u64;
-    }
-    false
+    layout::layout_ok(layout) && layout.naxis1 * layout.naxis2 + layout.pcount <= area.len() as u64
 }
 
-// The choice is one or more of the columns.
+// The choice is one or more of the columns. In one expression with `||` the cell read takes 3 % more instructions.
+#[tactic(auto, using(walk::proofs::Choice::shift_test))]
 pub fn choice_ok(tfields: usize, choice: u64) -> bool
     requires { tfields ≤ 64 }
     ensures { result ≡ (ltb 0 choice && ltb choice (2 ^ tfields)) }
@@ -26,36 +25,35 @@ pub fn choice_ok(tfields: usize, choice: u64) -> bool
     if choice == 0 {
         return false;
     }
-    if tfields == 64 {
+    if tfields == TFIELDS_LIMIT {
         return true;
     }
     choice >> tfields == 0
 }
 
 // The place is the start of a row, or an entry of one, or the end.
+#[tactic(auto, unfolding(walk::specs::Walk::place_ok))]
 fn place_ok(layout: BinTable, area: &[u8], cursor: TableData) -> bool
     requires { fits layout area.now ≡ true }
-    ensures { result ≡ place_ok (row_entries layout area.now cursor.choice cursor.heap) layout.naxis2 cursor.row cursor.passed }
+    ensures { result ≡ place_ok (row_entries layout area.now cursor.choice cursor.heap) layout.naxis2
+        cursor.row cursor.passed }
 {
     if cursor.row < layout.naxis2 {
-        if cursor.passed == 0 {
-            return true;
-        }
-        return cursor.passed < rows::row_size(layout, area, cursor.choice, cursor.heap, cursor.row);
+        let here = TableRow {
+            layout: &layout,
+            area,
+            cursor,
+        };
+        return cursor.passed == 0 || cursor.passed < here.size();
     }
-    if cursor.row == layout.naxis2 {
-        return cursor.passed == 0;
-    }
-    false
+    cursor.row == layout.naxis2 && cursor.passed == 0
 }
 
+// Whether a layout, a data area and a cursor belong together, which the row read of `row` asks first. If they do
+// not, every step is refused with 10.
+#[tactic(auto, using(walk::proofs::Inside::fits_limits), unfolding(walk::specs::Step::belongs, walk::specs::Step::choice_ok))]
 pub fn belongs(layout: BinTable, area: &[u8], cursor: TableData) -> bool
     ensures { result ≡ belongs layout area.now cursor }
 {
-    if fits(layout, area) {
-        if choice_ok(layout.tfields, cursor.choice) {
-            return place_ok(layout, area, cursor);
-        }
-    }
-    false
+    fits(layout, area) && choice_ok(layout.tfields, cursor.choice) && place_ok(layout, area, cursor)
 }

@@ -1,15 +1,16 @@
 // The plain list of a row: how many entries it has, the entry at an index, and the next entry from a place on.
 ghost use Rattle.std.specs.Prelude.{ℕ, ◌≡◌, true, cond, ◌+◌, ◌-◌, ◌*◌, ◌≤◌, ◌<◌, length, get_or};
-ghost use Rattle.layout.specs.Layout.{data_limit, data_size, layout_ok};
+ghost use Rattle.layout.specs.Layout.{data_limit};
 ghost use Rattle.cell.specs.Field.{field, size_of, ItemsInside};
 ghost use Rattle.walk.specs.declared.Entry.TheVariants.{OutsideHeap};
 ghost use Rattle.walk.specs.Plain.{column_of, entry_in, row_entries};
 ghost use Rattle.walk.specs.Walk.{next};
 ghost use Rattle.walk.specs.Step.{fits};
 ghost use Rattle.table.specs.NextPlace.{next_place};
-ghost use Rattle.table.specs.Scan.{any_items};
+ghost use Rattle.table.specs.Scan.{heap_of, any_items};
 
 use super::pass;
+use super::pass::Heap;
 use cell::{Cell, Field};
 use layout::{BinTable, Column};
 use tform::TFormType;
@@ -23,86 +24,96 @@ pub struct NextPlace {
     pub size: u64,
 }
 
-// How many entries a field at a place has, by reading it. The loops of the long way call it too, so that `column_size`
-// has one caller, the pass of `next`, and is compiled into it.
-fn array_entries(area: &[u8], at: u64, column: Column, heap: bool, theap: u64, end: u64) -> u64
-    ensures { result ≡ size_of (field area.now at column heap theap end) }
-{
-    let field = cell::read_field(area, at, column, heap, theap, end);
-    cell::field_size(field)
-}
-
-// How many entries a field at a place has. Only a descriptor has to be read for it.
-fn field_entries(area: &[u8], at: u64, column: Column, heap: bool, theap: u64, end: u64) -> u64
-    ensures { result ≡ size_of (field area.now at column heap theap end) }
-{
-    let form = column.form;
-    match form {
-        TFormType::Items(ty) => tform::item_count(ty, column.count as u64),
-        TFormType::P(_) => array_entries(area, at, column, heap, theap, end),
-        TFormType::Q(_) => array_entries(area, at, column, heap, theap, end),
-    }
-}
-
-// How many entries a field at a place has: none if its column is not chosen.
-pub fn column_size(
-    area: &[u8],
-    at: u64,
-    column: Column,
-    is_chosen: bool,
-    heap: bool,
-    theap: u64,
-    end: u64,
-) -> u64
-    ensures { result ≡ cond is_chosen (size_of (field area.now at column heap theap end)) 0 }
-{
-    if is_chosen {
-        return field_entries(area, at, column, heap, theap, end);
-    }
-    0
-}
-
-// Where a row starts and where the data end.
+// Where a row starts, and the heap that its descriptors name.
 #[derive(Clone, Copy)]
 pub struct RowSpan {
     pub start: u64,
-    pub end: u64,
+    pub heap: Heap,
 }
 
-// The place of a row, in which its columns lie.
-fn row_span(layout: BinTable, row: u64) -> RowSpan
-    requires { (layout_ok layout ≡ true) × (row < layout.naxis2) }
-    ensures start { result.start ≡ row * layout.naxis1 }
-    ensures end { result.end ≡ data_size layout }
-    ensures few { layout.tfields ≤ 64 }
-    ensures columns { (c : ℕ) → c < layout.tfields → result.start + (column_of layout c).start ≤ data_limit }
-{
-    let main = layout.naxis1 * layout.naxis2;
-    RowSpan {
-        start: row * layout.naxis1,
-        end: main + layout.pcount,
+// The cursor's row, which the table has, where the layout and the area belong together.
+#[derive(Clone, Copy)]
+pub struct TableRow<'a> {
+    pub layout: &'a BinTable,
+    pub area: &'a [u8],
+    pub cursor: TableData,
+    ghost fit: { fits layout.now area.now ≡ true },
+    ghost inside: { cursor.row < layout.now.naxis2 },
+}
+
+impl TableRow<'_> {
+    ghost use Rattle.table.specs.TableRow.{entries_of};
+
+    // The place of the row, in which its columns lie.
+    #[tactic(auto, using(walk::proofs::Inside::fits_layout, walk::proofs::Inside::column_in_row, walk::proofs::Inside::row_in_main, walk::proofs::Inside::data_bound))]
+    pub fn span(&self) -> RowSpan
+        ensures start { result.start ≡ self.now.cursor.row * self.now.layout.now.naxis1 }
+        ensures heap { result.heap ≡ heap_of self.now.layout.now self.now.cursor.heap }
+        ensures few { self.now.layout.now.tfields ≤ 64 }
+        ensures columns { (c : ℕ) → c < self.now.layout.now.tfields
+            → result.start + (column_of self.now.layout.now c).start ≤ data_limit }
+    {
+        let main = self.layout.naxis1 * self.layout.naxis2;
+        RowSpan {
+            start: self.cursor.row * self.layout.naxis1,
+            heap: Heap {
+                followed: self.cursor.heap,
+                start: self.layout.theap,
+                end: main + self.layout.pcount,
+            },
+        }
+    }
+
+    // How many entries the row has.
+    pub fn size(&self) -> u64
+        ensures { result ≡ length (entries_of self.now) }
+    {
+        let RowSpan { start, heap } = self.span();
+        let mut total: u64 = 0;
+        for c in pass::chosen_columns(self.cursor.choice, self.layout.tfields) {
+            let column = self.layout.columns[c];
+            total += cell::field_size(heap.field(self.area, start + column.start, column));
+        }
+        total
+    }
+
+    // The entry at the cursor's place.
+    pub fn entry(&self) -> Entry
+        requires { self.now.cursor.passed < length (entries_of self.now) }
+        ensures { result ≡ get_or (entries_of self.now) self.now.cursor.passed (OutsideHeap 0) }
+    {
+        let RowSpan { start, heap } = self.span();
+        let mut left = self.cursor.passed;
+        for c in pass::chosen_columns(self.cursor.choice, self.layout.tfields) {
+            let column = self.layout.columns[c];
+            let field = heap.field(self.area, start + column.start, column);
+            let size = cell::field_size(field);
+            if left < size {
+                return entry_in(self.area, column, self.cursor.row, c, field, left);
+            }
+            left -= size;
+        }
+        // Never reached: the place is one of the row.
+        Entry::OutsideHeap { column: 0 }
     }
 }
 
-// How many entries a row has.
-pub fn row_size(layout: BinTable, area: &[u8], choice: u64, heap: bool, row: u64) -> u64
-    requires { (fits layout area.now ≡ true) × (row < layout.naxis2) }
-    ensures { result ≡ length (row_entries layout area.now choice heap row) }
+// How many entries the field of a column at a place has: none if the column is not chosen. Only a descriptor has to be
+// read for it.
+#[tactic(auto, unfolding(cell::specs::Field::field))]
+pub fn column_size(area: &[u8], at: u64, column: Column, is_chosen: bool, heap: Heap) -> u64
+    ensures { result ≡ cond is_chosen (size_of (field area.now at column heap.followed heap.start heap.end)) 0 }
 {
-    let RowSpan { start, end } = row_span(layout, row);
-    let mut total: u64 = 0;
-    let mut c = pass::next_chosen(choice, 0);
-    while c < layout.tfields {
-        let column = layout.columns[c];
-        let at = start + column.start;
-        let size = array_entries(area, at, column, heap, layout.theap, end);
-        total += size;
-        c = pass::next_chosen(choice, c + 1);
+    if !is_chosen {
+        return 0;
     }
-    total
+    match column.form {
+        TFormType::Items(ty) => tform::item_count(ty, column.count as u64),
+        TFormType::P(_) | TFormType::Q(_) => cell::field_size(heap.field(area, at, column)),
+    }
 }
 
-// The entry at an index of a field.
+// The entry at an index of the field of column c in a row.
 fn entry_in(area: &[u8], column: Column, row: u64, c: usize, field: Field, idx: u64) -> Entry
     requires { (idx < size_of field) × ItemsInside data_limit field }
     ensures { result ≡ entry_in column area.now row c field idx }
@@ -136,39 +147,15 @@ pub fn entry_of(
     cursor: TableData,
     c: usize,
     idx: u64,
-    theap: u64,
-    end: u64,
+    heap: Heap,
 ) -> Entry
-    requires { (idx < size_of (field area.now at column cursor.heap theap end))
-        × ItemsInside data_limit (field area.now at column cursor.heap theap end) }
-    ensures { result ≡ entry_in column area.now cursor.row c (field area.now at column cursor.heap theap end) idx }
+    requires { (idx < size_of (field area.now at column heap.followed heap.start heap.end))
+        × ItemsInside data_limit (field area.now at column heap.followed heap.start heap.end) }
+    ensures { result ≡ entry_in column area.now cursor.row c
+        (field area.now at column heap.followed heap.start heap.end) idx }
 {
-    let field = cell::read_field(area, at, column, cursor.heap, theap, end);
+    let field = heap.field(area, at, column);
     entry_in(area, column, cursor.row, c, field, idx)
-}
-
-// The entry at an index of a row.
-pub fn entry_at(layout: BinTable, area: &[u8], choice: u64, heap: bool, row: u64, k: u64) -> Entry
-    requires { (fits layout area.now ≡ true) × (row < layout.naxis2)
-        × (k < length (row_entries layout area.now choice heap row)) }
-    ensures { result ≡ get_or (row_entries layout area.now choice heap row) k (OutsideHeap 0) }
-{
-    let RowSpan { start, end } = row_span(layout, row);
-    let mut left = k;
-    let mut c = pass::next_chosen(choice, 0);
-    while c < layout.tfields {
-        let column = layout.columns[c];
-        let at = start + column.start;
-        let field = cell::read_field(area, at, column, heap, layout.theap, end);
-        let size = cell::field_size(field);
-        if left < size {
-            return entry_in(area, column, row, c, field, left);
-        }
-        left -= size;
-        c = pass::next_chosen(choice, c + 1);
-    }
-    // Never reached: k is an index of the row.
-    Entry::OutsideHeap { column: 0 }
 }
 
 // Whether a chosen column holds an item or a descriptor. If none does, no row has an entry.
@@ -176,47 +163,37 @@ fn any_items(layout: BinTable, choice: u64) -> bool
     requires { layout.tfields ≤ 64 }
     ensures { result ≡ any_items layout choice 0 layout.tfields }
 {
-    let mut c = pass::next_chosen(choice, 0);
-    while c < layout.tfields {
+    for c in pass::chosen_columns(choice, layout.tfields) {
         let column = layout.columns[c];
-        let form = column.form;
-        if 0 < tform::field_items(form, column.count) {
+        if 0 < tform::field_items(column.form, column.count) {
             return true;
         }
-        c = pass::next_chosen(choice, c + 1);
     }
     false
 }
 
-// The next entry from a place on, passing rows that have none left.
-pub fn find_entry(
-    layout: BinTable,
-    area: &[u8],
-    choice: u64,
-    heap: bool,
-    row: u64,
-    passed: u64,
-) -> Option<NextPlace>
+// The next entry from the cursor's place on, passing rows that have none left.
+pub fn find_entry(layout: BinTable, area: &[u8], cursor: TableData) -> Option<NextPlace>
     requires { fits layout area.now ≡ true }
-    ensures { result ≡ next_place (row_entries layout area.now choice heap)
-        (next (row_entries layout area.now choice heap) layout.naxis2 (layout.naxis2 - row) row passed) }
+    ensures { result ≡ next_place (row_entries layout area.now cursor.choice cursor.heap)
+        (next (row_entries layout area.now cursor.choice cursor.heap) layout.naxis2 (layout.naxis2 - cursor.row)
+        cursor.row cursor.passed) }
 {
-    if !any_items(layout, choice) {
+    if !any_items(layout, cursor.choice) {
         return None;
     }
-    let mut r = row;
-    let mut p = passed;
-    while r < layout.naxis2 {
-        let size = row_size(layout, area, choice, heap, r);
-        if p < size {
-            return Some(NextPlace {
-                row: r,
-                passed: p,
-                size,
-            });
+    let mut passed = cursor.passed;
+    for row in cursor.row..layout.naxis2 {
+        let here = TableRow {
+            layout: &layout,
+            area,
+            cursor: TableData { row, ..cursor },
+        };
+        let size = here.size();
+        if passed < size {
+            return Some(NextPlace { row, passed, size });
         }
-        p = 0;
-        r += 1;
+        passed = 0;
     }
     None
 }

@@ -5,47 +5,33 @@ ghost use Rattle.table.specs.Scan.{after};
 
 use layout::Column;
 
-// The bytes and the entries of the columns so far, whether the next entry is one of them, and where: its column and
-// its index in the field. Until it is found, `left` entries are still to be passed.
+// The bytes and the entries of the columns so far, and the column of the next entry, once it is found. Until then
+// `left` entries are still to be passed; after that it is the entry's index in its field.
 #[derive(Clone, Copy)]
 pub struct Scan {
     pub at: u64,
     pub size: u64,
-    pub found: bool,
     pub left: u64,
-    pub column: usize,
+    pub found: Option<usize>,
 }
 
 // The pass after column c, which has so many entries.
+#[tactic(auto, using(layout::proofs::Ok::column_limit))]
 pub fn after(scan: Scan, column: Column, c: usize, size: u64) -> Scan
     requires { (count_ok column.form column.count ≡ true) × ((scan.at ≤ 8589935616) × (scan.size + size < 2 ^ 64)) }
     ensures { result ≡ after scan column c size }
 {
-    let form = column.form;
-    let at = scan.at + tform::num_bytes_field(form, column.count);
-    if scan.found {
-        return Scan {
-            at,
-            size: scan.size + size,
-            found: true,
-            left: scan.left,
-            column: scan.column,
-        };
-    }
-    if scan.left < size {
-        return Scan {
-            at,
-            size: scan.size + size,
-            found: true,
-            left: scan.left,
-            column: c,
-        };
-    }
+    let here = scan.found.is_none() && scan.left < size;
+    let found = if here { Some(c) } else { scan.found };
+    let left = if found.is_some() {
+        scan.left
+    } else {
+        scan.left - size
+    };
     Scan {
-        at,
+        at: scan.at + tform::num_bytes_field(column.form, column.count),
         size: scan.size + size,
-        found: false,
-        left: scan.left - size,
-        column: c,
+        left,
+        found,
     }
 }

@@ -4,7 +4,7 @@ ghost use Rattle.layout.specs.Layout.{naxis2_limit};
 ghost use Rattle.walk.specs.Walk.{read_cell, placed, grown, pass, entry_outcome, seek_outcome};
 ghost use Rattle.walk.specs.Step.{belongs, state_of, cursor_at, with_cursor, cursor_step, cell_result, seek_result};
 
-use super::rows::NextPlace;
+use super::rows::{NextPlace, TableRow};
 use super::{belong, rows};
 use cell::Cell;
 use layout::BinTable;
@@ -16,11 +16,9 @@ fn placed(cursor: TableData, row: u64, passed: u64) -> TableData
     ensures { result ≡ cursor_at cursor.choice cursor.heap (placed (state_of cursor) row passed) }
 {
     TableData {
-        choice: cursor.choice,
-        heap: cursor.heap,
         row,
         passed,
-        count: cursor.count,
+        ..cursor
     }
 }
 
@@ -29,40 +27,31 @@ fn grown(cursor: TableData) -> TableData
     ensures { result ≡ cursor_at cursor.choice cursor.heap (grown (state_of cursor) read_cell 1) }
 {
     TableData {
-        choice: cursor.choice,
-        heap: cursor.heap,
-        row: cursor.row,
-        passed: cursor.passed,
         count: walk::counted(cursor.count, 1),
+        ..cursor
     }
 }
 
-// The cursor after entry `passed` of a row that has `size` of them.
-fn pass(cursor: TableData, row: u64, passed: u64, size: u64) -> TableData
-    requires { (row < naxis2_limit) × (passed < size) }
-    ensures { result ≡ cursor_at cursor.choice cursor.heap (pass (state_of cursor) size row passed) }
+// The cursor after the entry at a place.
+fn pass(cursor: TableData, place: NextPlace) -> TableData
+    requires { (place.row < naxis2_limit) × (place.passed < place.size) }
+    ensures { result ≡ cursor_at cursor.choice cursor.heap (pass (state_of cursor) place.size place.row place.passed) }
 {
-    if passed + 1 < size {
-        return placed(cursor, row, passed + 1);
+    if place.passed + 1 < place.size {
+        return placed(cursor, place.row, place.passed + 1);
     }
-    placed(cursor, row + 1, 0)
+    placed(cursor, place.row + 1, 0)
 }
 
-// A cell read at an entry.
-pub fn read_entry(
-    cursor: TableData,
-    row: u64,
-    passed: u64,
-    size: u64,
-    entry: Entry,
-) -> Stepped<Option<Cell>>
-    requires { (row < naxis2_limit) × (passed < size) }
+// A cell read at the entry at a place.
+pub fn read_entry(cursor: TableData, place: NextPlace, entry: Entry) -> Stepped<Option<Cell>>
+    requires { (place.row < naxis2_limit) × (place.passed < place.size) }
     ensures { cell_result result.cursor result.answer ≡ with_cursor cursor.choice cursor.heap
-        (entry_outcome (state_of cursor) size row passed entry) }
+        (entry_outcome (state_of cursor) place.size place.row place.passed entry) }
 {
     match entry {
         Entry::Cell(cell) => Stepped {
-            cursor: pass(grown(cursor), row, passed, size),
+            cursor: pass(grown(cursor), place),
             answer: Ok(Some(cell)),
         },
         Entry::OutsideHeap { column } => Stepped {
@@ -77,25 +66,22 @@ fn read_cell(layout: BinTable, area: &[u8], cursor: TableData) -> Stepped<Option
     requires { belongs layout area.now cursor ≡ true }
     ensures { cell_result result.cursor result.answer ≡ cursor_step layout area.now cursor read_cell }
 {
-    let place = rows::find_entry(
-        layout,
-        area,
-        cursor.choice,
-        cursor.heap,
-        cursor.row,
-        cursor.passed,
-    );
-    let Some(NextPlace { row, passed, size }) = place else {
+    let Some(place) = rows::find_entry(layout, area, cursor) else {
         return Stepped {
             cursor: placed(cursor, layout.naxis2, 0),
             answer: Ok(None),
         };
     };
-    let entry = rows::entry_at(layout, area, cursor.choice, cursor.heap, row, passed);
-    read_entry(cursor, row, passed, size, entry)
+    let here = TableRow {
+        layout: &layout,
+        area,
+        cursor: placed(cursor, place.row, place.passed),
+    };
+    read_entry(cursor, place, here.entry())
 }
 
 // A cell read: refused with 10 if the cursor does not belong.
+#[tactic(auto, using(walk::proofs::Steps::step_unfit))]
 pub fn next(layout: BinTable, area: &[u8], cursor: TableData) -> Stepped<Option<Cell>>
     ensures { cell_result result.cursor result.answer ≡ cursor_step layout area.now cursor read_cell }
 {
@@ -110,7 +96,8 @@ pub fn next(layout: BinTable, area: &[u8], cursor: TableData) -> Stepped<Option<
 
 // A seek of a cursor that belongs to a table of naxis2 rows.
 pub fn seek(naxis2: u64, cursor: TableData, row: usize) -> Stepped<()>
-    ensures { seek_result result.cursor result.answer ≡ with_cursor cursor.choice cursor.heap (seek_outcome naxis2 (state_of cursor) row) }
+    ensures { seek_result result.cursor result.answer
+        ≡ with_cursor cursor.choice cursor.heap (seek_outcome naxis2 (state_of cursor) row) }
 {
     if (row as u64) < naxis2 {
         return Stepped {

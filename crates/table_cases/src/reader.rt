@@ -32,6 +32,20 @@ fn is_shown(k: usize, n: usize, cells: usize) -> bool {
     n <= 24 || k < 8 || k.abs_diff(cells) <= 2 || k.abs_diff(n) <= 2
 }
 
+// What a step over a lent cursor answers, beside the cursor after it.
+fn by_lent<T, F>(cursor: TableData, step: F) -> Stepped<T>
+where
+    F: FnOnce(&mut TableData) -> Result<T, Refusal>,
+    requires { F.IsAlwaysCallable step }
+{
+    let mut own = cursor;
+    let answer = step(&mut own);
+    Stepped {
+        cursor: own,
+        answer,
+    }
+}
+
 // The table under test, with the area that a step is lent, and whether its calls are made over a lent cursor.
 #[derive(Clone, Copy)]
 pub struct Reader<'a> {
@@ -43,12 +57,7 @@ pub struct Reader<'a> {
 impl Reader<'_> {
     fn next(&self, cursor: TableData) -> Stepped<Option<Cell>> {
         if self.over_lent {
-            let mut own = cursor;
-            let answer = row::next(&mut own, self.layout, self.area);
-            Stepped {
-                cursor: own,
-                answer,
-            }
+            by_lent(cursor, |own| row::next(own, self.layout, self.area))
         } else {
             table::next(self.layout, self.area, cursor)
         }
@@ -56,12 +65,10 @@ impl Reader<'_> {
 
     fn seek_to_row(&self, cursor: TableData, row: usize) -> Stepped<()> {
         if self.over_lent {
-            let mut own = cursor;
-            let answer = row::seek_to_row(&mut own, self.layout, self.area, row);
-            Stepped {
-                cursor: own,
-                answer,
-            }
+            by_lent(
+                cursor,
+                |own| row::seek_to_row(own, self.layout, self.area, row),
+            )
         } else {
             table::seek_to_row(self.layout, self.area, cursor, row)
         }
@@ -76,15 +83,13 @@ impl Reader<'_> {
     ) -> Result<(Stepped<Option<u64>>, Vec<Cell>), AllocError> {
         let mut list = vec![in alloc; other(); n]?;
         if self.over_lent {
-            let mut own = cursor;
-            let answer = row::next_row(&mut own, self.layout, self.area, list.as_mut_slice());
-            let stepped = Stepped {
-                cursor: own,
-                answer,
-            };
+            let stepped = by_lent(cursor, |own| {
+                row::next_row(own, self.layout, self.area, list.as_mut_slice())
+            });
             return Ok((stepped, list));
         }
-        // By value the list is that of `row_cell`, which gives one cell of it: the read is done anew for each that is shown.
+        // By value the list is that of `row_cell`, which gives one cell of it: the read is done anew for each that
+        // is shown.
         let read = row::owners::row_cell(self.layout, self.area, cursor, other(), n, 0);
         let cells = cells_read(read.stepped.answer);
         for (k, cell) in list.iter_mut().enumerate() {

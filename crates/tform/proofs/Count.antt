@@ -1,17 +1,20 @@
 -- The count of a form: capped, it is still within the limit of the form just where the exact one is.
 -- Assumes nothing.
 use Rattle.std.specs.Prelude.{Option, Some, None}
-use mathlib.Core.Path.{◌≡◌, refl}
+use mathlib.Core.Path.{◌≡◌, refl, sym, ap, ◌∙◌}
 use mathlib.Core.List.{List}
 use mathlib.Core.Bool.{true, cond}
 use Prim.Native.Nat.{ℕ, ◌≤◌, ◌<◌, min}
 use native.Mathlib.Nat.{le_trans}
 use native.Mathlib.Omega.{arith}
 use lib.Dec.{eqb, leb}
-use lib.ListN.{take, drop}
+use lib.ListN.{length, take, drop}
+use lib.Seq.{length-take-le}
 use borrow.Author.Tests.{le-leb, lt-leb, leb-true, leb-false}
 use Rattle.ascii.specs.Text.{front, digit, decimal}
 use Rattle.ascii.proofs.Cases.{either, by_test}
+use Rattle.ascii.proofs.Front.{front_le}
+use Rattle.ascii.proofs.Reading.{front_take}
 use Rattle.tform.specs.declared.TFormType.{TFormType}
 use Rattle.tform.specs.declared.TFormType.TheVariants.{Items, P, Q}
 use Rattle.tform.specs.declared.TForm.{TForm}
@@ -21,6 +24,17 @@ use Rattle.tform.specs.Form.{repeat_count, kind_of, counted, form_of}
 -- the count that the code reads
 abbrev pub capped_count : List ℕ → ℕ
 capped_count s = cond (eqb (front digit s) 0) 1 (min 8388609 (decimal 0 (take (front digit s) s)))
+
+-- the digits in front of a text
+module _ (s d : List ℕ) (n : ℕ) (e : n ≡ front digit s) (f : d ≡ take n s) where
+  length_digits : length d ≡ front digit s
+  length_digits = ap length f ∙ length-take-le n s (omega (arith, e, front_le digit s)) ∙ e
+
+  pub all_digits : front digit d ≡ length d
+  all_digits = ap (front digit) f ∙ front_take digit s n (omega arith) ∙ e ∙ sym length_digits
+
+  pub capped_digits : cond (eqb (length d) 0) 1 (min 8388609 (decimal 0 d)) ≡ capped_count s
+  capped_digits = rw (length_digits, f, e)
 
 capped_is : (s : List ℕ) → capped_count s ≡ min 8388609 (repeat_count s)
 unfolding repeat_count

@@ -1,6 +1,5 @@
 pub mod Tables
 pub mod Widths
 pub mod Count
-pub mod Letters
 pub mod Examples
 pub mod EachByte

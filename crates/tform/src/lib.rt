@@ -7,6 +7,9 @@ ghost use Rattle.std.specs.Prelude.{◌≡◌};
 ghost use Rattle.tform.specs.Width.{letter, form_letter, letter_width, items, field_items, field_bytes, count_ok};
 ghost use Rattle.tform.specs.Form.{counted, form_of};
 
+// The largest count of a form of items.
+const COUNT_LIMIT: u32 = 8388608;
+
 // What one item is, in a column or in an array of the heap.
 #[derive(Clone, Copy)]
 pub enum VariableArrayTy {
@@ -54,7 +57,7 @@ pub fn item_width(letter: u8) -> u8
     }
 }
 
-// The letter of an item.
+// The letter of an item. No `From`: a `u8` of an item could as well be its width.
 pub fn letter(ty: VariableArrayTy) -> u8
     ensures { result ≡ letter ty }
 {
@@ -80,7 +83,7 @@ pub fn width(ty: VariableArrayTy) -> u64
     item_width(letter(ty)) as u64
 }
 
-// The letter of a form.
+// The letter of a form, a function as that of an item is.
 pub fn form_letter(form: TFormType) -> u8
     ensures { result ≡ form_letter form }
 {
@@ -97,16 +100,7 @@ pub fn item_count(ty: VariableArrayTy, count: u64) -> u64
 {
     match ty {
         VariableArrayTy::X => count / 8 + (count % 8 + 7) / 8,
-        VariableArrayTy::L => count,
-        VariableArrayTy::B => count,
-        VariableArrayTy::I => count,
-        VariableArrayTy::J => count,
-        VariableArrayTy::K => count,
-        VariableArrayTy::A => count,
-        VariableArrayTy::E => count,
-        VariableArrayTy::D => count,
-        VariableArrayTy::C => count,
-        VariableArrayTy::M => count,
+        _ => count,
     }
 }
 
@@ -128,15 +122,8 @@ pub fn num_bytes_field(form: TFormType, count: u32) -> u64
     field_items(form, count) * width
 }
 
-// The same, under the name that a caller of landings 6 to 8 has it by.
-pub fn field_bytes(form: TFormType, count: u32) -> u64
-    ensures { result ≡ field_bytes form count }
-{
-    num_bytes_field(form, count)
-}
-
-// Whether a count is within its limit: a field of P or Q is one descriptor or none. A count that every form may have is
-// seen first, so that most columns need no look at the form.
+// Whether a count is within its limit: a field of P or Q is one descriptor or none. A count that every form may have
+// is seen first, so that most columns need no look at the form.
 pub fn count_ok(form: TFormType, count: u32) -> bool
     ensures { result ≡ count_ok form count }
 {
@@ -144,7 +131,7 @@ pub fn count_ok(form: TFormType, count: u32) -> bool
         return true;
     }
     match form {
-        TFormType::Items(_) => count <= 8388608,
+        TFormType::Items(_) => count <= COUNT_LIMIT,
         TFormType::P(_) | TFormType::Q(_) => false,
     }
 }
@@ -164,8 +151,7 @@ fn counted(form: TFormType, count: u32) -> Option<TForm>
 pub fn parse_tform(text: &[u8]) -> Option<TForm>
     ensures { result ≡ form_of text.now }
 {
-    let digits = ascii::leading_digits(text);
-    let count = parsing::repeat_count(text, digits);
-    let form = parsing::kind_of(&text[digits..])?;
-    counted(form, count)
+    let (digits, rest) = text.split_at(ascii::leading_digits(text));
+    let form = parsing::kind_of(rest)?;
+    counted(form, parsing::repeat_count(digits))
 }

@@ -1,37 +1,37 @@
 // The parts of a form's text: the count, the letter, and after P and Q the letter of the elements.
-ghost use Rattle.std.specs.Prelude.{◌≡◌, cond, ◌≤◌, min, eqb, take};
+ghost use Rattle.std.specs.Prelude.{◌≡◌, cond, min, eqb, length};
 ghost use Rattle.ascii.specs.Text.{front, digit, decimal};
 ghost use Rattle.tform.specs.Form.{element_of, first_element, kind_of};
 
-use super::{TFormType, VariableArrayTy};
+use super::{COUNT_LIMIT, TFormType, VariableArrayTy};
 
-// `n`, or 8,388,609, one more than the largest limit, if it is larger.
+// A count above every limit.
+const OVER_LIMIT: u32 = COUNT_LIMIT + 1;
+
+// `n`, or a count above every limit if it is larger.
 fn capped(n: usize) -> u32
     ensures { result ≡ min 8388609 n }
 {
-    if 8388609 < n {
-        return 8388609;
-    }
-    n as u32
+    n.min(OVER_LIMIT as usize) as u32
 }
 
-// The count of so many digits, capped, with 1 where there are none. A number that is too large to be held is above
-// every limit.
-pub fn repeat_count(text: &[u8], digits: usize) -> u32
-    requires { digits ≤ front digit text.now }
-    ensures { result ≡ cond (eqb digits 0) 1 (min 8388609 (decimal 0 (take digits text.now))) }
+// The count that digits are, capped, with 1 where there are none. A number that is too large to be held is above every
+// limit.
+pub fn repeat_count(digits: &[u8]) -> u32
+    requires { front digit digits.now ≡ length digits.now }
+    ensures { result ≡ cond (eqb (length digits.now) 0) 1 (min 8388609 (decimal 0 digits.now)) }
 {
-    if digits == 0 {
+    if digits.is_empty() {
         return 1;
     }
-    let number = ascii::digits::parse_number(&text[..digits]);
-    match number {
+    match ascii::digits::parse_number(digits) {
         Some(count) => capped(count),
-        None => 8388609,
+        None => OVER_LIMIT,
     }
 }
 
-// It stands alone in what is compiled: each copy would have tables of its own in read-only memory.
+// It stands alone in what is compiled: each copy would have tables of its own in read-only memory. No `TryFrom`, whose
+// error nobody would read.
 #[inline(never)]
 #[tactic(auto, unfolding(crate::specs::Form::element_of, crate::specs::Form::element_among))]
 fn element_of(letter: u8) -> Option<VariableArrayTy>

@@ -10,7 +10,7 @@ use cell::Cell;
 use refusal::Refusal;
 
 // Where a cursor's count stops.
-pub const COUNT_STOP: u32 = 4294967295;
+pub const COUNT_STOP: u32 = u32::MAX;
 
 // The cursor: column c is chosen if bit c of the choice, from the lowest, is set; whether the heap is followed;
 // the place, which is a row and the entries passed in it; and the count of the cells handed out.
@@ -23,7 +23,8 @@ pub struct TableData {
     pub count: u32,
 }
 
-// An entry of a row's plain list: a cell, or an array of this column that ends past the heap.
+// An entry of a row's plain list: a cell, or an array of this column that ends past the heap. It is no Result, since
+// both are entries, each with its place in the list; only a read that comes to the latter is refused.
 #[derive(Clone, Copy)]
 pub enum Entry {
     Cell(Cell),
@@ -42,10 +43,5 @@ pub struct Stepped<T> {
 pub fn counted(count: u32, n: u64) -> u32
     ensures { result ≡ min stop (count + n) }
 {
-    let room = (COUNT_STOP - count) as u64;
-    if n < room {
-        count + n as u32
-    } else {
-        COUNT_STOP
-    }
+    count.saturating_add(u32::try_from(n).unwrap_or(COUNT_STOP))
 }

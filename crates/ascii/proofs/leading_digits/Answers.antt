@@ -1,27 +1,15 @@
--- `leading_digits` meets its contract: a byte below 48 or above 57 ends the count, and another one adds one to it.
-use Rattle.std.proofs.Common.{arith}
-use Rattle.ascii.specs.Text.{front, digit}
-use Rattle.ascii.proofs.Scan.{goes_on, stops}
-use Rattle.ascii.proofs.Front.{front_next, front_stop, front_end}
-use Rattle.ascii.proofs.Decimal.{digit_low, digit_high, digit_yes}
+-- `leading_digits` meets its contract: it counts what `take_while` takes.
+use Rattle.std.proofs.Common.{◌∙◌, rules, tests}
+use Rattle.std.proofs.lemmas.Iterator.{YieldsList-from_slice}
+use Rattle.std.proofs.lemmas.Iterator.Consumers.{count_from_yields_List}
+use Rattle.std.proofs.lemmas.Iterator.Search.{YieldsList-from_take_while}
+use Rattle.ascii.specs.Text.{digit}
+use Rattle.ascii.proofs.Library.{front_taken}
 use Rattle.ascii.proofs.leading_digits.Goals as goal
 
-pub returns-then-s-i-lt48 : goal.returns-then-s-i-lt48
-returns-then-s-i-lt48 c =
-    let no = digit_low _ c.if-s-i-lt48.true in
-    stops (front digit) _ _ c.loop-i.invariant.1 (front_stop digit _ _ c.loop-i-test.true no)
-
-pub returns-then-s-i-gt57 : goal.returns-then-s-i-gt57
-returns-then-s-i-gt57 c =
-    let no = digit_high _ c.if-s-i-gt57.true in
-    stops (front digit) _ _ c.loop-i.invariant.1 (front_stop digit _ _ c.loop-i-test.true no)
-
-pub loop-i-preserved : goal.loop-i-preserved
-loop-i-preserved c =
-    let yes = digit_yes _ c.if-s-i-lt48.false c.if-s-i-gt57.false in (
-      omega arith,
-      goes_on (front digit) _ c.loop-i.i c.loop-i.invariant.1 1 (front_next digit _ c.loop-i.i c.loop-i-test.true yes),
-    )
-
 pub returns : goal.returns
-returns c = stops (front digit) _ _ c.loop-i.invariant.1 (front_end digit _ _ c.loop-i-test.false)
+returns c =
+    count_from_yields_List c.take_while.result _ c.count.ensures.ran
+    (YieldsList-from_take_while _ digit (YieldsList-from_slice c.args.s.now (cc)) c.take_while.ensures.closure
+    c.take_while.ensures.done (λ x b q k. search (rules, tests)))
+    ∙ front_taken digit c.args.s.now

@@ -1,32 +1,28 @@
--- `parse_value` meets its contract: the part lent is the record, and its field starts at byte 11.
-use Rattle.std.proofs.Common.{◌≡◌, ◌+◌, ◌*◌, false, drop, replicate, sym, ◌∙◌, ap, refl}
-use Rattle.ascii.specs.Text.{bytes, same}
-use Rattle.ascii.proofs.Parts.{part_from}
+-- `parse_value` meets its contract: the record's field starts at byte 11.
+use Rattle.std.proofs.Common.{◌+◌, ◌*◌, drop, length-drop, sym, ◌∙◌, ap, arith}
+use lib.Seq.{take_all}
 use Rattle.card.specs.Record.{has_value}
 use Rattle.card.specs.Value.{field_value}
-use Rattle.card.proofs.Records.{card_there, card_missing}
+use Rattle.card.proofs.Records.{no_value, record_is}
 use Rattle.card.proofs.Values.{value_unreadable, value_held}
 use Rattle.card.proofs.parse_value.Goals as goal
 
-blank : has_value (replicate 80 32) ≡ false
-unfolding has_value bytes same
-blank = refl
-
-pub returns-then-card-lt80 : goal.returns-then-card-lt80
-returns-then-card-lt80 c =
+pub returns-in_err-card : goal.returns-in_err-card
+returns-in_err-card c =
     let h = c.args.header.now in
-    let k = c.args.number in
-    sym (value_unreadable h k (ap has_value (card_missing h k (rw c.card_buf-card.ensures at c.if-card-lt80.true)) ∙ blank))
+    let missing = rw c.in_err-card.was at c.record_at.ensures in
+    c.from_residual.ensures ∙ sym (value_unreadable h c.args.number (no_value h c.args.number missing))
 
 pub returns-then-not-value_indicator : goal.returns-then-not-value_indicator
 returns-then-not-value_indicator c =
-    let there = c.card_buf-card.ensures ∙ card_there _ _ (rw c.card_buf-card.ensures at c.if-card-lt80.false) in
+    let there = record_is c.args.header.now c.args.number c.in_ok-card.card.now c.in_ok-card.ensures in
     sym (value_unreadable _ _ (sym (ap has_value there) ∙ sym c.value_indicator.ensures ∙ c.if-not-value_indicator.true))
 
 pub returns : goal.returns
 returns c =
-    let k = c.args.number in
-    let there = c.card_buf-card.ensures ∙ card_there _ _ (rw c.card_buf-card.ensures at c.if-card-lt80.false) in
+    let card = c.in_ok-card.card.now in
+    let there = record_is c.args.header.now c.args.number card c.in_ok-card.ensures in
+    let field = take_all 70 (drop 10 card) (simp length-drop (omega arith)) in
     c.field_value.ensures
-    ∙ ap (field_value (k * 80 + 10)) (part_from c.card_buf-card.result.now 10 ∙ ap (drop 10) there)
+    ∙ ap (field_value (c.args.number * 80 + 10)) (field ∙ ap (drop 10) there)
     ∙ sym (value_held _ _ (sym (ap has_value there) ∙ sym c.value_indicator.ensures ∙ c.if-not-value_indicator.false))

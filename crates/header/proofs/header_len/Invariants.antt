@@ -1,11 +1,7 @@
 -- The loop of `header_len`: none of the records passed is END.
-use Rattle.std.proofs.Common.{◌≤◌, ◌-◌}
 use Rattle.header.specs.Records.{records}
 use Rattle.header.proofs.Ends.{Open}
 use Rattle.header.proofs.header_len.Given as goal
 
 abbrev pub invariant-loop-k : goal.invariant-loop-k
-invariant-loop-k l = (l.k ≤ l.count) × Open (records l.file) l.k
-
-abbrev pub decreases-loop-k : goal.decreases-loop-k
-decreases-loop-k l = l.count - l.k
+invariant-loop-k l = Open (records l.file) l.k

@@ -1,9 +1,11 @@
 -- `locate` meets its contract: the first five bytes tell whether a root is in front, and the bytes after it which n.
-use Rattle.std.proofs.Common.{◌≡◌, ℕ, List, sym, ap, ◌∙◌, refl, Option, Some, None}
-use mathlib.Core.List.{map, flatten}
-use Rattle.ascii.specs.Text.{bytes}
+use Rattle.std.proofs.Common.{◌≡◌, ℕ, ◌≤◌, List, length, take, arith, sym, ap, ◌∙◌, refl, Option, Some, None}
+use mathlib.Core.List.{map}
+use lib.Dec.{ltb}
+use borrow.Author.Tests.{ltb-true, ltb-false}
+use Rattle.ascii.proofs.Cases.{either}
 use Rattle.ascii.proofs.Parts.{part_from}
-use Rattle.keyword.specs.Names.{index_limit, once_roots, other_roots, roots, position, numeral, range}
+use Rattle.keyword.specs.Names.{index_limit, roots, position, numeral, range}
 use Rattle.keyword.proofs.Numerals.{index_below}
 use Rattle.keyword.proofs.Parts.{short_name, single_slot, single_once, rooted_slot, rooted_once, none_once}
 use Rattle.keyword.proofs.Position.{position_at}
@@ -18,27 +20,28 @@ nothing None h = refl
 abbrev index : List ℕ → Option ℕ
 index s = position s (map numeral (range 1 index_limit))
 
-pub returns-then-name-lt5-clause-slot : goal.returns-then-name-lt5-clause-slot
-returns-then-name-lt5-clause-slot c =
-    c.single_places.ensures.slot ∙ sym (single_slot c.args.name.now (short_name c.args.name.now c.if-name-lt5.true))
+-- a name that begins with a root is as long as one
+long : (n : List ℕ) (r : ℕ) → position (take 5 n) roots ≡ Some r → 5 ≤ length n
+long n r e =
+    either (ltb (length n) 5)
+    (λ t. absurd (let y : Some r ≡ None = sym e ∙ short_name n (ltb-true (length n) 5 t) in let z : ◌≡◌ {A = ℕ} 0 1 = cc in omega arith))
+    (λ t. ltb-false (length n) 5 t)
 
-pub returns-then-name-lt5-clause-once : goal.returns-then-name-lt5-clause-once
-returns-then-name-lt5-clause-once c =
-    c.single_places.ensures.once ∙ sym (single_once c.args.name.now (short_name c.args.name.now c.if-name-lt5.true))
+pub slice_bounds-keyword_index-count : goal.slice_bounds-keyword_index-count
+slice_bounds-keyword_index-count c = long c.args.name.now c.in-Some.r (sym c.in-Some.ensures)
 
-pub root_of-requires : goal.root_of-requires
-unfolding once_roots other_roots bytes flatten
-root_of-requires c = refl
+pub slice_bounds-keyword_index-start : goal.slice_bounds-keyword_index-start
+slice_bounds-keyword_index-start c = long c.args.name.now c.in-Some.r (sym c.in-Some.ensures)
 
 pub returns-in_default-clause-slot : goal.returns-in_default-clause-slot
 returns-in_default-clause-slot c =
     let e = sym c.root_of.ensures ∙ nothing _ c.in_default.not-Some in
-    c.single_places-in_default.ensures.slot ∙ sym (single_slot c.args.name.now e)
+    c.single_places.ensures.slot ∙ sym (single_slot c.args.name.now e)
 
 pub returns-in_default-clause-once : goal.returns-in_default-clause-once
 returns-in_default-clause-once c =
     let e = sym c.root_of.ensures ∙ nothing _ c.in_default.not-Some in
-    c.single_places-in_default.ensures.once ∙ sym (single_once c.args.name.now e)
+    c.single_places.ensures.once ∙ sym (single_once c.args.name.now e)
 
 pub returns-in_default-keyword_index-clause-slot : goal.returns-in_default-keyword_index-clause-slot
 returns-in_default-keyword_index-clause-slot c =

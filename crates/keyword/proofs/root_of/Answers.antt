@@ -1,35 +1,23 @@
--- `root_of` meets its contract: there are as many words as roots, and each is its root.
-use Rattle.std.proofs.Common.{◌≡◌, ℕ, ◌+◌, ◌-◌, ◌*◌, ◌/◌, ◌<◌, List, [], length, get_or, take, drop, sym, ap, ◌∙◌, add-one, arith}
-use mathlib.Core.List.{flatten}
-use Rattle.ascii.specs.Text.{same}
-use Rattle.keyword.specs.Names.{roots}
-use Rattle.keyword.proofs.Parts.{all_rooted, words_length, word_at}
-use Rattle.keyword.proofs.Position.{passed_more, passed_here, passed_all}
+-- `root_of` meets its contract: the place of the root in front.
+use Rattle.std.proofs.Common.{◌≡◌, List, ℕ, Bor, length, take, ◌∙◌, ap, rules, tests}
+use mathlib.Core.List.{map}
+use lib.Dec.{eqb}
+use Rattle.std.specs.Cmp.Lexicographic.{pointwise}
+use Rattle.std.proofs.lemmas.Iterator.{YieldsList-from_slice}
+use Rattle.std.proofs.lemmas.Iterator.Search.{position_from_yields_List}
+use Rattle.ascii.specs.Text.{bytes}
+use Rattle.ascii.proofs.Library.{same_swapped}
+use Rattle.keyword.specs.Names.{once_roots, other_roots, roots, position}
+use Rattle.keyword.proofs.Position.{position_found}
 use Rattle.keyword.proofs.root_of.Goals as goal
 
-module _ (words : List ℕ) (e : words ≡ flatten roots) where
-  many : length words / 5 ≡ length roots
-  many = rw e (omega (arith, words_length roots all_rooted.fives))
-
-  word : (r : ℕ) → r < length words / 5 → take (r * 5 + 5 - r * 5) (drop (r * 5) words) ≡ get_or roots r []
-  word r p =
-      let q : r < length roots = omega (arith, many) in
-      let z : r * 5 + 5 - r * 5 ≡ 5 = omega arith in
-      rw (e, z) (word_at roots r all_rooted.fives q)
-
-pub returns-then-same_bytes : goal.returns-then-same_bytes
-returns-then-same_bytes c =
-    let p = c.loop-r-test.true in
-    let t = ap (same _) (sym (word _ c.requires _ p)) ∙ sym c.if-same_bytes.ensures in
-    sym (passed_here _ roots _ (omega (arith, many _ c.requires, p)) c.loop-r.invariant.1 t)
-
-pub loop-r-preserved : goal.loop-r-preserved
-loop-r-preserved c =
-    let p = c.loop-r-test.true in
-    let t = ap (same _) (sym (word _ c.requires _ p)) ∙ sym c.if-same_bytes.ensures in
-    (omega arith, rw add-one (passed_more _ roots _ (omega (arith, many _ c.requires, p)) c.loop-r.invariant.1 t))
-
 pub returns : goal.returns
+unfolding once_roots other_roots bytes
 returns c =
-    let e : c.loop-r.r ≡ length roots = omega (arith, many _ c.requires) in
-    sym (passed_all _ roots (rw e at c.loop-r.invariant.1))
+    let name = c.args.name.now in
+    let words = c.iter.result.rest.now in
+    let test = λ (r : Bor (List ℕ)). pointwise eqb r.now (take (length r.now) name) in
+    let e : map (λ (r : Bor (List ℕ)). r.now) words ≡ roots = ap (map (λ (r : Bor (List ℕ)). r.now)) c.iter.ensures.rest in
+    position_from_yields_List test _ _ c.position.result c.position.ensures.ran (YieldsList-from_slice words (cc))
+    (λ x b q k. search (rules, tests))
+    ∙ position_found (take 5 name) test (λ r. r.now) words (rw c.iter.ensures.rest (simp same_swapped)) ∙ ap (position (take 5 name)) e

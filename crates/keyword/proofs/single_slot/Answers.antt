@@ -1,45 +1,23 @@
--- `single_slot` meets its contract: each test that fails passes one name more.
-use Rattle.std.proofs.Common.{sym}
+-- `single_slot` meets its contract: the name's place in the list.
+use Rattle.std.proofs.Common.{◌≡◌, List, ℕ, Bor, ◌∙◌, ap, rules, tests}
+use mathlib.Core.List.{map}
+use lib.Dec.{eqb}
+use Rattle.std.specs.Cmp.Lexicographic.{pointwise}
+use Rattle.std.proofs.lemmas.Iterator.{YieldsList-from_slice}
+use Rattle.std.proofs.lemmas.Iterator.Search.{position_from_yields_List}
 use Rattle.ascii.specs.Text.{bytes}
+use Rattle.ascii.proofs.Library.{same_swapped}
 use Rattle.keyword.specs.Names.{single, position}
+use Rattle.keyword.proofs.Position.{position_found}
 use Rattle.keyword.proofs.single_slot.Goals as goal
 
-pub returns-then-same_bytes : goal.returns-then-same_bytes
-unfolding single bytes position
-returns-then-same_bytes c = rw (sym c.if-same_bytes.ensures)
-
-pub returns-then-same_bytes-2 : goal.returns-then-same_bytes-2
-unfolding single bytes position
-returns-then-same_bytes-2 c = rw (sym c.if-same_bytes.ensures, sym c.if-same_bytes-2.ensures)
-
-pub returns-then-same_bytes-3 : goal.returns-then-same_bytes-3
-unfolding single bytes position
-returns-then-same_bytes-3 c = rw (sym c.if-same_bytes.ensures, sym c.if-same_bytes-2.ensures, sym c.if-same_bytes-3.ensures)
-
-pub returns-then-same_bytes-4 : goal.returns-then-same_bytes-4
-unfolding single bytes position
-returns-then-same_bytes-4 c = rw (sym c.if-same_bytes.ensures, sym c.if-same_bytes-2.ensures, sym c.if-same_bytes-3.ensures, sym c.if-same_bytes-4.ensures)
-
-pub returns-then-same_bytes-5 : goal.returns-then-same_bytes-5
-unfolding single bytes position
-returns-then-same_bytes-5 c = rw (sym c.if-same_bytes.ensures, sym c.if-same_bytes-2.ensures, sym c.if-same_bytes-3.ensures, sym c.if-same_bytes-4.ensures, sym c.if-same_bytes-5.ensures)
-
-pub returns-then-same_bytes-6 : goal.returns-then-same_bytes-6
-unfolding single bytes position
-returns-then-same_bytes-6 c = rw (sym c.if-same_bytes.ensures, sym c.if-same_bytes-2.ensures, sym c.if-same_bytes-3.ensures, sym c.if-same_bytes-4.ensures, sym c.if-same_bytes-5.ensures, sym c.if-same_bytes-6.ensures)
-
-pub returns-then-same_bytes-7 : goal.returns-then-same_bytes-7
-unfolding single bytes position
-returns-then-same_bytes-7 c = rw (sym c.if-same_bytes.ensures, sym c.if-same_bytes-2.ensures, sym c.if-same_bytes-3.ensures, sym c.if-same_bytes-4.ensures, sym c.if-same_bytes-5.ensures, sym c.if-same_bytes-6.ensures, sym c.if-same_bytes-7.ensures)
-
-pub returns-then-same_bytes-8 : goal.returns-then-same_bytes-8
-unfolding single bytes position
-returns-then-same_bytes-8 c = rw (sym c.if-same_bytes.ensures, sym c.if-same_bytes-2.ensures, sym c.if-same_bytes-3.ensures, sym c.if-same_bytes-4.ensures, sym c.if-same_bytes-5.ensures, sym c.if-same_bytes-6.ensures, sym c.if-same_bytes-7.ensures, sym c.if-same_bytes-8.ensures)
-
-pub returns-then-same_bytes-9 : goal.returns-then-same_bytes-9
-unfolding single bytes position
-returns-then-same_bytes-9 c = rw (sym c.if-same_bytes.ensures, sym c.if-same_bytes-2.ensures, sym c.if-same_bytes-3.ensures, sym c.if-same_bytes-4.ensures, sym c.if-same_bytes-5.ensures, sym c.if-same_bytes-6.ensures, sym c.if-same_bytes-7.ensures, sym c.if-same_bytes-8.ensures, sym c.if-same_bytes-9.ensures)
-
 pub returns : goal.returns
-unfolding single bytes position
-returns c = rw (sym c.if-same_bytes.ensures, sym c.if-same_bytes-2.ensures, sym c.if-same_bytes-3.ensures, sym c.if-same_bytes-4.ensures, sym c.if-same_bytes-5.ensures, sym c.if-same_bytes-6.ensures, sym c.if-same_bytes-7.ensures, sym c.if-same_bytes-8.ensures, sym c.if-same_bytes-9.ensures)
+unfolding single bytes
+returns c =
+    let name = c.args.name.now in
+    let names = c.iter.result.rest.now in
+    let test = λ (r : Bor (List ℕ)). pointwise eqb r.now name in
+    let e : map (λ (r : Bor (List ℕ)). r.now) names ≡ single = ap (map (λ (r : Bor (List ℕ)). r.now)) c.iter.ensures.rest in
+    position_from_yields_List test _ _ c.position.result c.position.ensures.ran (YieldsList-from_slice names (cc))
+    (λ x b q k. search (rules, tests))
+    ∙ position_found name test (λ r. r.now) names (simp same_swapped) ∙ ap (position name) e

@@ -1,13 +1,14 @@
 -- `column_name` meets its contract: there is no such column, or its name is the part of the header that its place says.
-use Rattle.std.proofs.Common.{◌∙◌, arith}
-use Rattle.layout.proofs.Named.{name_over, name_past, name_at}
+use Rattle.std.proofs.Common.{◌∙◌}
+use Rattle.layout.specs.Layout.{no_column}
+use Rattle.layout.proofs.Named.{name_found, name_missing}
 use Rattle.layout.proofs.column_name.Goals as goal
 
-pub returns-then-layout-column : goal.returns-then-layout-column
-returns-then-layout-column c = name_over _ c.args.layout c.args.column c.if-layout-column.true
+pub returns-in-Some : goal.returns-in-Some
+returns-in-Some c =
+    let item = rw c.columns.ensures at c.in-Some.ensures.lookup.3 in
+    c.part.ensures ∙ name_found c.args.header.now c.args.layout c.args.column c.in-Some.found.now item.0 (item.1 no_column)
 
-pub returns-then-column-ge-TFIELDS_LIMIT : goal.returns-then-column-ge-TFIELDS_LIMIT
-returns-then-column-ge-TFIELDS_LIMIT c = name_past _ c.args.layout c.args.column (omega arith)
-
-pub returns : goal.returns
-returns c = c.part.ensures ∙ name_at _ c.args.layout c.args.column (omega arith)
+pub returns-in-None : goal.returns-in-None
+returns-in-None c =
+    name_missing c.args.header.now c.args.layout c.args.column (rw c.columns.ensures at c.in-None.ensures.lookup.3)

@@ -26,43 +26,43 @@ all l a u c s w h k =
 pub overflow_mul-start : goal.overflow_mul-start
 overflow_mul-start c =
     let l = c.args.layout in let a = c.args.area.now in let u = c.args.cursor in
-    let y = ready_says l a u.choice u.row (sym c.ready.ensures ∙ c.if-ready.true) in
+    let y = ready_says l a u (sym c.ready.ensures ∙ c.if-ready.true) in
     omega (arith, ready_start l a u.choice u.row y, ready_data l a u.choice u.row y)
 
-pub overflow_mul-end : goal.overflow_mul-end
-overflow_mul-end c =
+pub overflow_mul-heap : goal.overflow_mul-heap
+overflow_mul-heap c =
     let l = c.args.layout in let a = c.args.area.now in let u = c.args.cursor in
-    let y = ready_says l a u.choice u.row (sym c.ready.ensures ∙ c.if-ready.true) in
+    let y = ready_says l a u (sym c.ready.ensures ∙ c.if-ready.true) in
     omega (arith, ready_data l a u.choice u.row y)
 
-pub overflow_add-end : goal.overflow_add-end
-overflow_add-end c =
+pub overflow_add-heap : goal.overflow_add-heap
+overflow_add-heap c =
     let l = c.args.layout in let a = c.args.area.now in let u = c.args.cursor in
-    let y = ready_says l a u.choice u.row (sym c.ready.ensures ∙ c.if-ready.true) in
+    let y = ready_says l a u (sym c.ready.ensures ∙ c.if-ready.true) in
     omega (arith, ready_data l a u.choice u.row y)
 
 pub offset_bounds-layout-c : goal.offset_bounds-layout-c
 offset_bounds-layout-c c =
     let l = c.args.layout in let a = c.args.area.now in let u = c.args.cursor in
-    let y = ready_says l a u.choice u.row (sym c.ready.ensures ∙ c.if-ready.true) in
+    let y = ready_says l a u (sym c.ready.ensures ∙ c.if-ready.true) in
     omega (arith, ready_columns l a u.choice u.row y)
 
 pub bounds-layout-c : goal.bounds-layout-c
 bounds-layout-c c =
     let l = c.args.layout in let a = c.args.area.now in let u = c.args.cursor in
-    let y = ready_says l a u.choice u.row (sym c.ready.ensures ∙ c.if-ready.true) in
+    let y = ready_says l a u (sym c.ready.ensures ∙ c.if-ready.true) in
     omega (arith, ready_columns l a u.choice u.row y)
 
 pub chosen-is_chosen-requires : goal.chosen-is_chosen-requires
 chosen-is_chosen-requires c =
     let l = c.args.layout in let a = c.args.area.now in let u = c.args.cursor in
-    let y = ready_says l a u.choice u.row (sym c.ready.ensures ∙ c.if-ready.true) in
+    let y = ready_says l a u (sym c.ready.ensures ∙ c.if-ready.true) in
     omega (arith, ready_columns l a u.choice u.row y)
 
 pub overflow_add-start : goal.overflow_add-start
 overflow_add-start c =
     let l = c.args.layout in let a = c.args.area.now in let u = c.args.cursor in
-    let y = ready_says l a u.choice u.row (sym c.ready.ensures ∙ c.if-ready.true) in
+    let y = ready_says l a u (sym c.ready.ensures ∙ c.if-ready.true) in
     omega (
       arith,
       c.loop-c.invariant.1.summed.bytes,
@@ -74,7 +74,7 @@ overflow_add-start c =
 pub after-scan-requires : goal.after-scan-requires
 after-scan-requires c =
     let l = c.args.layout in let a = c.args.area.now in let u = c.args.cursor in
-    let y = ready_says l a u.choice u.row (sym c.ready.ensures ∙ c.if-ready.true) in
+    let y = ready_says l a u (sym c.ready.ensures ∙ c.if-ready.true) in
     let q = both _ _ (sym c.in_order.ensures ∙ c.if-not-in_order.false) in
     let s : c.column_size-size.result ≡ column_size l a u.choice u.heap u.row c.loop-c.c =
     rw (c.column_size-size.ensures, c.chosen-is_chosen.ensures)
@@ -90,7 +90,7 @@ after-scan-requires c =
 pub loop-c-preserved : goal.loop-c-preserved
 loop-c-preserved c =
     let l = c.args.layout in let a = c.args.area.now in let u = c.args.cursor in
-    let y = ready_says l a u.choice u.row (sym c.ready.ensures ∙ c.if-ready.true) in
+    let y = ready_says l a u (sym c.ready.ensures ∙ c.if-ready.true) in
     let n = columns l (omega arith) (ready_columns l a u.choice u.row y) in
     let q = both _ _ (sym c.in_order.ensures ∙ c.if-not-in_order.false) in
     let o = eqb-true _ _ q.1 in
@@ -103,35 +103,35 @@ loop-c-preserved c =
           (scanned_next l a u.choice u.heap u.row u.passed n c.loop-c.c _ c.loop-c.scan c.loop-c-test.true c.loop-c.invariant.1 few q.0 o s),
     )
 
-pub offset_bounds-layout-k : goal.offset_bounds-layout-k
-offset_bounds-layout-k c =
+pub offset_bounds-layout-c-then-scan-layout : goal.offset_bounds-layout-c-then-scan-layout
+offset_bounds-layout-c-then-scan-layout c =
     let l = c.args.layout in let a = c.args.area.now in let u = c.args.cursor in
-    let y = ready_says l a u.choice u.row (sym c.ready.ensures ∙ c.if-ready.true) in
+    let y = ready_says l a u (sym c.ready.ensures ∙ c.if-ready.true) in
     let n = columns l (omega arith) (ready_columns l a u.choice u.row y) in
     let w = all l a u c.loop-c.c c.loop-c.scan c.loop-c.invariant.1 c.loop-c.invariant.0 c.loop-c-test.false in
-    let f = found_in l a u c.loop-c.scan n y w c.if-scan-layout.true c.if-scan.true in
+    let f = found_in l a u c.loop-c.scan c.in-Some.c n y w c.if-scan-layout.true c.in-Some.is in
     omega (arith, f.1.0, ready_columns l a u.choice u.row y)
 
-pub bounds-layout-k : goal.bounds-layout-k
-bounds-layout-k c =
+pub bounds-layout-c-then-scan-layout : goal.bounds-layout-c-then-scan-layout
+bounds-layout-c-then-scan-layout c =
     let l = c.args.layout in let a = c.args.area.now in let u = c.args.cursor in
-    let y = ready_says l a u.choice u.row (sym c.ready.ensures ∙ c.if-ready.true) in
+    let y = ready_says l a u (sym c.ready.ensures ∙ c.if-ready.true) in
     let n = columns l (omega arith) (ready_columns l a u.choice u.row y) in
     let w = all l a u c.loop-c.c c.loop-c.scan c.loop-c.invariant.1 c.loop-c.invariant.0 c.loop-c-test.false in
-    let f = found_in l a u c.loop-c.scan n y w c.if-scan-layout.true c.if-scan.true in
+    let f = found_in l a u c.loop-c.scan c.in-Some.c n y w c.if-scan-layout.true c.in-Some.is in
     omega (arith, f.1.0, ready_columns l a u.choice u.row y)
 
-pub overflow_add-start-then-scan-layout : goal.overflow_add-start-then-scan-layout
-overflow_add-start-then-scan-layout c =
+pub overflow_add-at : goal.overflow_add-at
+overflow_add-at c =
     let l = c.args.layout in let a = c.args.area.now in let u = c.args.cursor in
-    let y = ready_says l a u.choice u.row (sym c.ready.ensures ∙ c.if-ready.true) in
+    let y = ready_says l a u (sym c.ready.ensures ∙ c.if-ready.true) in
     let n = columns l (omega arith) (ready_columns l a u.choice u.row y) in
     let w = all l a u c.loop-c.c c.loop-c.scan c.loop-c.invariant.1 c.loop-c.invariant.0 c.loop-c-test.false in
-    let f = found_in l a u c.loop-c.scan n y w c.if-scan-layout.true c.if-scan.true in
-    let ok = fits_layout l a (found_fits l a u c.loop-c.scan n y w c.if-scan-layout.true c.if-scan.true) in
+    let f = found_in l a u c.loop-c.scan c.in-Some.c n y w c.if-scan-layout.true c.in-Some.is in
+    let ok = fits_layout l a (found_fits l a u c.loop-c.scan c.in-Some.c n y w c.if-scan-layout.true c.in-Some.is) in
     omega (
       arith,
-      column_in_row l ok c.loop-c.scan.column f.1.0,
+      column_in_row l ok c.in-Some.c f.1.0,
       ready_start l a u.choice u.row y,
       ready_data l a u.choice u.row y,
     )
@@ -140,29 +140,29 @@ pub entry_of-entry-requires : goal.entry_of-entry-requires
 unfolding field_of
 entry_of-entry-requires c =
     let l = c.args.layout in let a = c.args.area.now in let u = c.args.cursor in
-    let y = ready_says l a u.choice u.row (sym c.ready.ensures ∙ c.if-ready.true) in
+    let y = ready_says l a u (sym c.ready.ensures ∙ c.if-ready.true) in
     let n = columns l (omega arith) (ready_columns l a u.choice u.row y) in
     let w = all l a u c.loop-c.c c.loop-c.scan c.loop-c.invariant.1 c.loop-c.invariant.0 c.loop-c-test.false in
-    let f = found_in l a u c.loop-c.scan n y w c.if-scan-layout.true c.if-scan.true in
-    let ok = fits_layout l a (found_fits l a u c.loop-c.scan n y w c.if-scan-layout.true c.if-scan.true) in
-    (f.1.1.0, items_bound l ok a u.heap u.row c.loop-c.scan.column (ready_row l a u.choice u.row y) f.1.0)
+    let f = found_in l a u c.loop-c.scan c.in-Some.c n y w c.if-scan-layout.true c.in-Some.is in
+    let ok = fits_layout l a (found_fits l a u c.loop-c.scan c.in-Some.c n y w c.if-scan-layout.true c.in-Some.is) in
+    (f.1.1.0, items_bound l ok a u.heap u.row c.in-Some.c (ready_row l a u.choice u.row y) f.1.0)
 
 pub read_entry-requires : goal.read_entry-requires
 read_entry-requires c =
     let l = c.args.layout in let a = c.args.area.now in let u = c.args.cursor in
-    let y = ready_says l a u.choice u.row (sym c.ready.ensures ∙ c.if-ready.true) in
+    let y = ready_says l a u (sym c.ready.ensures ∙ c.if-ready.true) in
     let n = columns l (omega arith) (ready_columns l a u.choice u.row y) in
     let w = all l a u c.loop-c.c c.loop-c.scan c.loop-c.invariant.1 c.loop-c.invariant.0 c.loop-c-test.false in
-    let f = found_in l a u c.loop-c.scan n y w c.if-scan-layout.true c.if-scan.true in
+    let f = found_in l a u c.loop-c.scan c.in-Some.c n y w c.if-scan-layout.true c.in-Some.is in
     (omega (arith, ready_row l a u.choice u.row y, leb-true l.naxis2 naxis2_limit y.rows), f.0)
 
 pub returns-then-scan-layout : goal.returns-then-scan-layout
 unfolding field_of
 returns-then-scan-layout c =
     let l = c.args.layout in let a = c.args.area.now in let u = c.args.cursor in
-    let y = ready_says l a u.choice u.row (sym c.ready.ensures ∙ c.if-ready.true) in
+    let y = ready_says l a u (sym c.ready.ensures ∙ c.if-ready.true) in
     let n = columns l (omega arith) (ready_columns l a u.choice u.row y) in
     let w = all l a u c.loop-c.c c.loop-c.scan c.loop-c.invariant.1 c.loop-c.invariant.0 c.loop-c-test.false in
     c.read_entry.ensures
     ∙ rw c.entry_of-entry.ensures
-    (sym (found_step l a u c.loop-c.scan n y w c.if-scan-layout.true c.if-scan.true))
+    (sym (found_step l a u c.loop-c.scan c.in-Some.c n y w c.if-scan-layout.true c.in-Some.is))

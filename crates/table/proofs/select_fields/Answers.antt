@@ -1,20 +1,21 @@
--- `select_fields` meets its contract: what opening comes to where the layout and the area belong together, and where not.
-use Rattle.std.proofs.Common.{sym, ◌∙◌}
+-- `select_fields` meets its contract: a column is wanted where it is listed.
+use Rattle.std.proofs.Common.{◌≡◌, ℕ, List, [], ◌∷◌, refl, sym, ◌∙◌, rules}
+use Rattle.std.specs.List.{list_any}
+use lib.Dec.{eqb}
+use borrow.Author.Tests.{eq-eqb, eqb-true, eqb-false, ne_eqb}
+use Rattle.ascii.proofs.Cases.{either}
+use Rattle.tform.specs.Width.{among}
 use Rattle.walk.specs.Step.{listed}
-use Rattle.walk.proofs.Inside.{fits_limits}
-use Rattle.walk.proofs.Steps.{open_fit, open_unfit}
 use Rattle.table.proofs.select_fields.Goals as goal
 
-pub listed_columns-requires : goal.listed_columns-requires
-listed_columns-requires c = (fits_limits c.args.layout c.args.area.now (sym c.fits.ensures ∙ c.if-fits.true)).columns
+same_test : (x y : ℕ) → eqb y x ≡ eqb x y
+same_test x y = either (eqb x y) (λ e. rw e (eq-eqb y x (sym (eqb-true x y e)))) (λ e. rw e (ne_eqb y x (λ q. eqb-false x y e (sym q))))
 
-pub returns-then-fits : goal.returns-then-fits
-returns-then-fits c =
-    c.opened.ensures
-    ∙ rw c.listed_columns.ensures
-    (sym (open_fit c.args.layout c.args.area.now (listed c.args.cols.now) c.args.heap (sym c.fits.ensures ∙ c.if-fits.true)))
+-- the slice's test for an element
+any_among : (x : ℕ) (ys : List ℕ) → list_any (λ y. eqb y x) ys ≡ among x ys
+unfolding among
+any_among x [] = refl
+any_among x (y ∷ ys) = rw (same_test x y, any_among x ys)
 
 pub returns : goal.returns
-returns c =
-    sym
-    (open_unfit c.args.layout c.args.area.now (listed c.args.cols.now) c.args.heap (sym c.fits.ensures ∙ c.if-fits.false))
+returns c = c.open_on.ensures (listed c.args.cols.now) (λ i is h p. let q : is ≡ list_any (λ y. eqb y i) c.args.cols.now = search rules in q ∙ any_among i c.args.cols.now)

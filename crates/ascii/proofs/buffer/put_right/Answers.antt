@@ -11,25 +11,17 @@ returns-then-not-has_room c =
     let a = c.args in
     let over = leb-false _ _ (sym c.if-not-has_room.ensures) in
     let t = not_tried a.out.now a.at (right_aligned a.width a.text.now)
-    (omega (arith, over, c.indent-spaces.ensures, right_length a.width a.text.now)) in
-    record { place = t.0; buffer = t.1 }
-
-pub returns-then-not-has_room-2 : goal.returns-then-not-has_room-2
-returns-then-not-has_room-2 c =
-    let a = c.args in
-    let over = leb-false _ _ (sym c.if-not-has_room-2.ensures) in
-    let t = not_tried a.out.now a.at (right_aligned a.width a.text.now)
-    (omega (arith, over, c.indent-spaces.ensures, right_length a.width a.text.now)) in
+    (omega (arith, over, right_length a.width a.text.now)) in
     record { place = t.0; buffer = t.1 }
 
 pub returns : goal.returns
 returns c =
     let a = c.args in
-    let k = c.indent-spaces.result in
+    let k = c.saturating_sub-spaces.result in
     let n = length-replicate {A = ℕ} k 32 in
-    let fits = leb-true _ _ (sym c.if-not-has_room-2.ensures) in
+    let fits = leb-true _ _ (sym c.if-not-has_room.ensures) in
     let both = joined a.out.now a.at (replicate k 32) a.text.now (omega (arith, fits, c.copy.ensures.place))
     (omega (arith, n), c.fill_spaces.ensures) (c.copy.ensures.place, c.copy.ensures.buffer) in
-    let t = tried_as a.out.now a.at (ap (λ (m : ℕ). replicate m 32 ++ a.text.now) c.indent-spaces.ensures)
+    let t = tried_as a.out.now a.at (ap (λ (m : ℕ). replicate m 32 ++ a.text.now) c.saturating_sub-spaces.ensures)
     (tried a.out.now a.at (replicate k 32 ++ a.text.now) (simp length-append (omega (arith, n, fits))) both) in
     record { place = t.0; buffer = t.1 }

@@ -1,24 +1,19 @@
 -- `closing_quote` meets its contract: a byte that is no quote is passed, a single quote closes, and a double one is passed.
-use Rattle.std.proofs.Common.{sym, ◌∙◌, eq-eqb, ne_eqb}
-use Rattle.ascii.proofs.Scan.{goes_on, stops}
-use Rattle.card.specs.Ends.{closing}
-use Rattle.card.proofs.Closing.{closing_other, closing_single, closing_double, closing_end}
+use Rattle.card.proofs.Closing.{other_passed, double_passed, single_closes}
 use Rattle.card.proofs.text.closing_quote.Goals as goal
 
-pub loop-i-preserved-then-s-i-ne39 : goal.loop-i-preserved-then-s-i-ne39
-loop-i-preserved-then-s-i-ne39 c =
-    goes_on closing _ c.loop-i.i c.loop-i.invariant _
-    (closing_other _ c.loop-i.i c.loop-i-test.true (ne_eqb _ _ c.if-s-i-ne39.true))
+pub loop-first-preserved-then-first-ne39 : goal.loop-first-preserved-then-first-ne39
+loop-first-preserved-then-first-ne39 c =
+    other_passed c.args.s.now c.loop-first.rest.now c.loop-first.invariant c.in_ok-first.first.now c.in_ok-first.after.now
+    c.in_ok-first.ensures.cases.0 c.if-first-ne39.true
 
-pub returns-then-not-is_quote : goal.returns-then-not-is_quote
-returns-then-not-is_quote c =
-    stops closing _ _ c.loop-i.invariant
-    (closing_single _ _ c.loop-i-test.true (eq-eqb _ _ c.if-s-i-ne39.false) (sym c.is_quote.ensures ∙ c.if-not-is_quote.true))
+pub loop-first-preserved : goal.loop-first-preserved
+loop-first-preserved c =
+    let after = c.in-Some.ensures.cases in
+    double_passed c.args.s.now c.loop-first.rest.now c.loop-first.invariant c.in_ok-first.first.now c.in_ok-first.after.now
+    c.in_ok-first.ensures.cases.0 c.if-first-ne39.false after.0 c.in-Some.after.now after.1 after.2
 
-pub loop-i-preserved : goal.loop-i-preserved
-loop-i-preserved c =
-    goes_on closing _ c.loop-i.i c.loop-i.invariant _
-    (closing_double _ c.loop-i.i c.loop-i-test.true (eq-eqb _ _ c.if-s-i-ne39.false) (sym c.is_quote.ensures ∙ c.if-not-is_quote.false))
-
-pub returns : goal.returns
-returns c = stops closing _ _ c.loop-i.invariant (closing_end _ _ c.loop-i-test.false)
+pub returns-in-None : goal.returns-in-None
+returns-in-None c =
+    single_closes c.args.s.now c.loop-first.rest.now c.loop-first.invariant c.in_ok-first.first.now c.in_ok-first.after.now
+    c.in_ok-first.ensures.cases.0 c.if-first-ne39.false c.in-None.ensures.cases

@@ -1,10 +1,10 @@
--- The loop of `closing_quote`: the place in the whole is that in the rest and the bytes passed.
-use Rattle.std.proofs.Common.{◌≡◌, ◌+◌, ◌-◌, length, drop}
-use Rattle.card.specs.Ends.{closing}
+-- The loop of `closing_quote`: what is left, in which the same quote closes.
+use Rattle.std.proofs.Common.{length}
+use Rattle.card.proofs.Closing.{Left}
 use Rattle.card.proofs.text.closing_quote.Given as goal
 
-abbrev pub invariant-loop-i : goal.invariant-loop-i
-invariant-loop-i l = closing l.s ≡ closing (drop l.i l.s) + l.i
+abbrev pub invariant-loop-first : goal.invariant-loop-first
+invariant-loop-first l = Left l.s l.rest
 
-abbrev pub decreases-loop-i : goal.decreases-loop-i
-decreases-loop-i l = length l.s - l.i
+abbrev pub decreases-loop-first : goal.decreases-loop-first
+decreases-loop-first l = length l.rest

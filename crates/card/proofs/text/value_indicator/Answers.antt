@@ -1,13 +1,14 @@
--- `value_indicator` meets its contract, byte by byte.
-use Rattle.std.proofs.Common.{sym}
-use Rattle.card.proofs.Records.{value_short, value_differs, value_equals}
+-- `value_indicator` meets its contract: the two bytes at the front of those from byte 9 on.
+use Rattle.std.proofs.Common.{◌∷◌, [], List, ℕ, take, drop, ◌∙◌, ap, arith}
+use lib.Seq.{take-take}
+use Rattle.ascii.specs.Text.{bytes, same}
+use Rattle.ascii.proofs.Library.{same_swapped}
+use Rattle.card.specs.Record.{has_value}
 use Rattle.card.proofs.text.value_indicator.Goals as goal
 
-pub returns-then-s-lt10 : goal.returns-then-s-lt10
-returns-then-s-lt10 c = sym (value_short _ c.if-s-lt10.true)
-
-pub returns-then-s-ne61 : goal.returns-then-s-ne61
-returns-then-s-ne61 c = sym (value_differs _ c.if-s-lt10.false c.if-s-ne61.true)
-
 pub returns : goal.returns
-returns c = sym (value_equals _ c.if-s-lt10.false c.if-s-ne61.false)
+unfolding has_value bytes
+returns c =
+    let part = take 72 (drop 8 c.args.s.now) in
+    c.starts_with.ensures.value ∙ same_swapped (take 2 part) (61 ∷ 32 ∷ [])
+    ∙ ap (λ (l : List ℕ). same l (61 ∷ 32 ∷ [])) (take-take 2 72 (drop 8 c.args.s.now) (omega arith))

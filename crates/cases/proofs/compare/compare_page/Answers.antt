@@ -1,5 +1,7 @@
 -- `compare_page` meets its contract: the page lies at the front of the buffer.
-use Rattle.std.proofs.Common.{ℕ, List, length, take, sym, ap, ◌∙◌, arith}
+use Rattle.std.proofs.Common.{◌≡◌, ℕ, List, Bool, true, false, length, take, refl, sym, ap, ◌∙◌, arith}
+use Rattle.std.specs.Prelude.{is_some}
+use Rattle.std.specs.Bool.{then_some}
 use lib.Seq.{length-take-le}
 use Rattle.ascii.specs.Text.{same}
 use Rattle.ascii.proofs.Chain.{front}
@@ -22,6 +24,10 @@ slice_bounds-begins_with-end c =
     let x = page_length (length c.zeros-out.result) (file_left a.file.now a.layout a.steps.now a.state) in
     sym (length-take-le p.result.len p.new.out (omega (arith, p.ensures.len, p.auto.out, x)))
 
+told : {A : Type 0} (b : Bool) (x : A) → is_some (then_some b x) ≡ b
+told true x = refl
+told false x = refl
+
 pub returns-clause-begins : goal.returns-clause-begins
 returns-clause-begins c =
     let a = c.args in
@@ -29,12 +35,10 @@ returns-clause-begins c =
     let out = c.zeros-out.result in
     let text = a.text.now in
     let lines = file_left a.file.now a.layout a.steps.now a.state in
-    let page = page_text (length out) lines in
     let x = page_length (length out) lines in
     let f =
-    front out page {p = p.result.len} (omega (arith, p.ensures.len, x))
+    front out (page_text (length out) lines) {p = p.result.len} (omega (arith, p.ensures.len, x))
     (omega (arith, p.ensures.len), p.ensures.buffer) in
-    rw c.zeros-out.ensures
-    (c.begins_with-begins.ensures
-    ∙ ap (λ (t : List ℕ). same (take (length t) text) t) f
-    ∙ ap (λ (n : ℕ). same (take n text) page) (sym p.ensures.len))
+    ap is_some c.then_some.ensures
+    ∙ told _ p.result
+    ∙ rw c.zeros-out.ensures (c.begins_with.ensures ∙ ap (λ (t : List ℕ). same (take (length t) text) t) f)

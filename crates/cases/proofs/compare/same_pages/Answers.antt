@@ -1,7 +1,8 @@
 -- `same_pages` meets its contract: each page either differs, which decides, or lies within the text, which goes on
 -- after it; a page with no bytes is the last.
-use Rattle.std.proofs.Common.{◌≡◌, ◌+◌, ◌-◌, ◌≤◌, ℕ, Bool, true, List, length, take, drop, sym, ap, ◌∙◌, arith}
-use borrow.Author.Tests.{not-true, not-false}
+use Rattle.std.proofs.Common.{◌≡◌, ◌-◌, ℕ, Bool, true, List, length, take, drop, refl, sym, ap, ◌∙◌, arith}
+use Rattle.std.specs.Prelude.{is_some}
+use Rattle.cases.specs.Text.{begins_page}
 use Rattle.ascii.specs.Text.{same}
 use Rattle.ascii.proofs.Parts.{part_from}
 use Rattle.output.specs.State.{file_left}
@@ -11,67 +12,62 @@ use Rattle.cases.proofs.Beside.{page_differs, page_inside, page_same, none_left}
 use Rattle.cases.proofs.compare.same_pages.Goals as goal
 
 -- whether the text from a place on begins with a page, as the call says it of the part that is passed
-begun : (text page : List ℕ) (at n : ℕ) {b : Bool} → b ≡ same (take n (take (length text - at) (drop at text))) page
-    → b ≡ same (take n (drop at text)) page
-begun text page at n h = h ∙ ap (λ (s : List ℕ). same (take n s) page) (part_from text at)
+begun : (text page : List ℕ) (at : ℕ) {b c : Bool} → b ≡ same (take (length page) (take (length text - at) (drop at text))) page → b ≡ c
+    → same (take (length page) (drop at text)) page ≡ c
+begun text page at h e = sym (h ∙ ap (λ (s : List ℕ). same (take (length page) s) page) (part_from text at)) ∙ e
 
--- a page that the text goes on with lies within it
-inside : (text : List ℕ) (at n : ℕ) (ts : List (List ℕ)) {b : Bool} → n ≡ length (page_text page_room ts)
-    → at ≤ length text → b ≡ same (take n (take (length text - at) (drop at text))) (page_text page_room ts) → b ≡ true
-    → at + n ≤ length text
-inside text at n ts e h g t =
-    page_inside text at page_room n ts e h (sym (begun text (page_text page_room ts) at n g) ∙ t)
-
-pub returns-then-compared-eq0 : goal.returns-then-compared-eq0
-returns-then-compared-eq0 c =
+pub returns-in_default : goal.returns-in_default
+returns-in_default c =
     let a = c.args in
-    let l = c.loop-layout in
+    let l = c.loop-page in
     let ts = file_left a.file.now a.layout a.steps.now l.current in
-    none_left a.text.now l.at ts l.invariant.inside
-    (c.compare_page-compared.ensures.whole (omega (arith, c.requires)) c.if-compared-eq0.true)
-    ∙ l.invariant.beside
-
-pub returns-then-not-compared : goal.returns-then-not-compared
-returns-then-not-compared c =
-    let a = c.args in
-    let l = c.loop-layout in
-    let p = c.compare_page-compared in
-    let ts = file_left a.file.now a.layout a.steps.now l.current in
-    let g = begun a.text.now (page_text page_room ts) l.at p.result.len p.ensures.begins in
+    let none = ap is_some c.in_default.is in
     sym
     (sym l.invariant.beside
-    ∙ page_differs a.text.now l.at page_room p.result.len ts p.ensures.len (sym g ∙ not-true _ c.if-not-compared.true))
+    ∙ page_differs a.text.now l.at page_room (length (page_text page_room ts)) ts refl (begun a.text.now (page_text page_room ts) l.at c.compare_page.ensures.begins none))
+
+-- the same of a page that is n bytes long
+begins : (text : List ℕ) (at n : ℕ) (ts : List (List ℕ)) {b : Bool} → n ≡ length (page_text page_room ts)
+    → b ≡ begins_page (take (length text - at) (drop at text)) ts → b ≡ true
+    → same (take n (drop at text)) (page_text page_room ts) ≡ true
+begins text at n ts e h t =
+    ap (λ (k : ℕ). same (take k (drop at text)) (page_text page_room ts)) e ∙ begun text (page_text page_room ts) at h t
+
+pub returns-then-page-eq0 : goal.returns-then-page-eq0
+returns-then-page-eq0 c =
+    let a = c.args in
+    let l = c.loop-page in
+    let ts = file_left a.file.now a.layout a.steps.now l.current in
+    none_left a.text.now l.at ts l.invariant.inside (c.in-Some.ensures.page.whole (omega (arith, c.requires)) c.if-page-eq0.true)
+    ∙ l.invariant.beside
 
 pub overflow_add-at : goal.overflow_add-at
 overflow_add-at c =
     let a = c.args in
-    let l = c.loop-layout in
-    let p = c.compare_page-compared in
+    let l = c.loop-page in
+    let p = c.in-Some.ensures.page in
     let ts = file_left a.file.now a.layout a.steps.now l.current in
-    let i =
-    inside a.text.now l.at p.result.len ts p.ensures.len l.invariant.inside p.ensures.begins
-    (not-false _ c.if-not-compared.false) in
-    omega (arith, i)
+    let n = c.in-Some.page.len in
+    let t = begins a.text.now l.at n ts p.len c.compare_page.ensures.begins (ap is_some c.in-Some.is) in
+    omega (arith, page_inside a.text.now l.at page_room n ts p.len l.invariant.inside t)
 
-pub loop-layout-smaller : goal.loop-layout-smaller
-loop-layout-smaller c =
+pub loop-page-smaller : goal.loop-page-smaller
+loop-page-smaller c =
     let a = c.args in
-    let p = c.compare_page-compared in
-    let ts = file_left a.file.now a.layout a.steps.now c.loop-layout.current in
-    let k = page_less page_room ts (omega (arith, p.ensures.len, c.if-compared-eq0.false)) in
-    omega (arith, ap length p.ensures.state, k)
+    let p = c.in-Some.ensures.page in
+    let ts = file_left a.file.now a.layout a.steps.now c.loop-page.current in
+    let k = page_less page_room ts (omega (arith, p.len, c.if-page-eq0.false)) in
+    omega (arith, ap length p.rest, k)
 
-pub loop-layout-preserved : goal.loop-layout-preserved
-loop-layout-preserved c =
+pub loop-page-preserved : goal.loop-page-preserved
+loop-page-preserved c =
     let a = c.args in
-    let l = c.loop-layout in
-    let p = c.compare_page-compared in
+    let l = c.loop-page in
+    let p = c.in-Some.ensures.page in
     let ts = file_left a.file.now a.layout a.steps.now l.current in
-    let us = file_left a.file.now a.layout a.steps.now p.result.state in
-    let t = not-false _ c.if-not-compared.false in
-    let g = begun a.text.now (page_text page_room ts) l.at p.result.len p.ensures.begins in record {
-      inside = inside a.text.now l.at p.result.len ts p.ensures.len l.invariant.inside p.ensures.begins t;
-      beside =
-          sym (page_same a.text.now l.at page_room p.result.len ts p.ensures.len us p.ensures.state (sym g ∙ t))
-          ∙ l.invariant.beside;
+    let us = file_left a.file.now a.layout a.steps.now c.in-Some.page.state in
+    let n = c.in-Some.page.len in
+    let t = begins a.text.now l.at n ts p.len c.compare_page.ensures.begins (ap is_some c.in-Some.is) in record {
+      inside = page_inside a.text.now l.at page_room n ts p.len l.invariant.inside t;
+      beside = sym (page_same a.text.now l.at page_room n ts p.len us p.rest t) ∙ l.invariant.beside;
     }

@@ -6,12 +6,12 @@ use Rattle.output.specs.State.{file_left}
 use Rattle.output.specs.Page.{lines_text}
 use Rattle.cases.proofs.compare.same_pages.Given as goal
 
-abbrev pub invariant-loop-layout : goal.invariant-loop-layout
-invariant-loop-layout l = record {
+abbrev pub invariant-loop-page : goal.invariant-loop-page
+invariant-loop-page l = record {
   inside : l.at ≤ length l.text;
   beside : same (drop l.at l.text) (lines_text (file_left l.file l.layout l.steps l.current))
       ≡ same l.text (lines_text (file_left l.file l.layout l.steps l.fn.state));
 }
 
-abbrev pub decreases-loop-layout : goal.decreases-loop-layout
-decreases-loop-layout l = length (file_left l.file l.layout l.steps l.current)
+abbrev pub decreases-loop-page : goal.decreases-loop-page
+decreases-loop-page l = length (file_left l.file l.layout l.steps l.current)

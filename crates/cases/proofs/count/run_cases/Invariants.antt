@@ -4,13 +4,13 @@ use Rattle.std.proofs.Common.{◌≡◌, ◌*◌, ◌-◌, ◌≤◌, length, dr
 use Rattle.cases.specs.Cases.{none, tallied}
 use Rattle.cases.proofs.count.run_cases.Given as goal
 
-abbrev pub invariant-loop-steps : goal.invariant-loop-steps
-invariant-loop-steps l = record {
+abbrev pub invariant-loop-case : goal.invariant-loop-case
+invariant-loop-case l = record {
   inside : l.at ≤ length l.file;
   few : 12 * l.tally.cases ≤ l.at;
   fewer : l.tally.differ ≤ l.tally.cases;
   counted : tallied (length l.file - l.at) l.tally (drop l.at l.file) ≡ tallied (length l.file) none l.file;
 }
 
-abbrev pub decreases-loop-steps : goal.decreases-loop-steps
-decreases-loop-steps l = length l.file - l.at
+abbrev pub decreases-loop-case : goal.decreases-loop-case
+decreases-loop-case l = length l.file - l.at

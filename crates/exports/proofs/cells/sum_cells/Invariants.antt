@@ -5,9 +5,9 @@ use Rattle.exports.specs.Reads.{reads_sum}
 use Rattle.exports.specs.Loops.{cells_from, sum_then}
 use Rattle.exports.proofs.cells.sum_cells.Given as goal
 
-abbrev pub invariant-loop-cell : goal.invariant-loop-cell
-invariant-loop-cell g l =
+abbrev pub invariant-loop-current : goal.invariant-loop-current
+invariant-loop-current g l =
     sum_then l.sum (cells_from l.layout l.area l.current) ≡ reads_sum (cells_from l.layout l.area l.fn.cursor)
 
-abbrev pub decreases-loop-cell : goal.decreases-loop-cell
-decreases-loop-cell g l = length (cells_from l.layout l.area l.current).cells
+abbrev pub decreases-loop-current : goal.decreases-loop-current
+decreases-loop-current g l = length (cells_from l.layout l.area l.current).cells

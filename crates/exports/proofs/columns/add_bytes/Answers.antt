@@ -1,15 +1,13 @@
--- The goals that `add_bytes` leaves: the next byte's word goes over from what is left to the sum so far.
-use Rattle.std.proofs.Common.{arith, sym, ◌∙◌}
-use Rattle.exports.proofs.Sums.{word_next, words_done}
+-- `add_bytes` meets its contract: it folds the bytes.
+use Rattle.std.proofs.Common.{◌∙◌, rules, tests}
+use Rattle.std.proofs.lemmas.Iterator.{YieldsList-from_slice}
+use Rattle.std.proofs.lemmas.Iterator.Consumers.{fold_from_yields_List}
+use Rattle.exports.specs.Checksum.{add_word}
+use Rattle.exports.proofs.Sums.{words_folded}
 use Rattle.exports.proofs.columns.add_bytes.Goals as goal
 
-pub loop-i-preserved : goal.loop-i-preserved
-loop-i-preserved c = record {
-  within = omega arith;
-  left =
-      rw c.add_word-total.ensures
-      (sym (word_next c.loop-i.total c.loop-i.i c.args.text.now c.loop-i-test.true) ∙ c.loop-i.invariant.left);
-}
-
 pub returns : goal.returns
-returns c = sym (words_done c.loop-i.total c.loop-i.i c.args.text.now c.loop-i-test.false) ∙ c.loop-i.invariant.left
+returns c =
+    fold_from_yields_List _ add_word c.args.sum _ c.fold.ensures.ran (YieldsList-from_slice c.args.text.now c.iter.ensures.rest)
+    (λ a x b q k. search (rules, tests))
+    ∙ words_folded c.args.sum c.args.text.now

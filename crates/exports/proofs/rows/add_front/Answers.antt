@@ -1,15 +1,13 @@
--- The goals that `add_front` leaves: each turn adds the next cell.
-use Rattle.std.proofs.Common.{arith, add-one, sym}
-use Rattle.exports.proofs.Sums.{front_none, front_more}
+-- `add_front` meets its contract: it folds the first cells.
+use Rattle.std.proofs.Common.{◌∙◌, take, rules, tests}
+use Rattle.std.proofs.lemmas.Iterator.{YieldsList-from_slice}
+use Rattle.std.proofs.lemmas.Iterator.Consumers.{fold_from_yields_List}
+use Rattle.exports.specs.Checksum.{add_cell}
+use Rattle.exports.proofs.Sums.{cells_folded}
 use Rattle.exports.proofs.rows.add_front.Goals as goal
 
-pub loop-i-init : goal.loop-i-init
-loop-i-init c = record { within = omega arith; done = sym (front_none c.args.sum c.args.list.now) }
-
-pub loop-i-preserved : goal.loop-i-preserved
-loop-i-preserved c = record {
-  within = omega arith;
-  done =
-      rw (c.add_cell-total.ensures, c.loop-i.invariant.done, add-one c.loop-i.i)
-      (sym (front_more c.args.sum c.args.list.now c.loop-i.i _ (omega arith)));
-}
+pub returns : goal.returns
+returns c =
+    fold_from_yields_List _ add_cell c.args.sum _ c.fold.ensures.ran (YieldsList-from_slice (take c.args.n c.args.list.now) c.iter.ensures.rest)
+    (λ a x b q k. search (rules, tests))
+    ∙ cells_folded c.args.sum (take c.args.n c.args.list.now)

@@ -1,47 +1,37 @@
 -- `columns_ok` meets its contract: each step takes one column. At most 64 columns of a limited count: their bytes fit.
-use Rattle.std.proofs.Common.{◌≡◌, ◌≤◌, true, false, length, get_or, sym, ◌∙◌, arith, length-take}
-use Rattle.tform.specs.Width.{count_ok}
+use Rattle.std.proofs.Common.{get_or, refl, sym, ◌∙◌, arith, length-take}
 use Rattle.layout.specs.Layout.{no_column, columns_of}
-use Rattle.layout.specs.declared.BinTable.{BinTable}
-use Rattle.layout.proofs.Named.{column_at}
 use Rattle.layout.proofs.Ok.{column_limit, ok_next, ok_count, ok_start, ok_end}
 use Rattle.layout.proofs.limits.columns_ok.Goals as goal
 
-columns : (l : BinTable) → length l.columns ≡ 64 → l.tfields ≤ 64 → length (columns_of l) ≡ l.tfields
-columns l e h = length-take l.tfields l.columns ∙ omega arith
-
 pub returns-then-not-count_ok : goal.returns-then-not-count_ok
 returns-then-not-count_ok c =
-    let l = c.args.layout in let i = c.loop-i.i in
-    let n = columns l (omega arith) c.requires in
-    let e : count_ok (get_or l.columns i no_column).form (get_or l.columns i no_column).count ≡ false = cc in
-    sym (c.loop-i.invariant.2 ∙ ok_count _ _ (columns_of l) i _ (omega (arith, n)) (column_at l i c.loop-i-test.true) e)
+    let l = c.loop-column in
+    sym (l.invariant.1 ∙ ok_count _ _ (columns_of c.args.layout) l.column-index _ c.loop-column-test.true refl
+    (sym c.count_ok.ensures ∙ c.if-not-count_ok.true))
 
 pub returns-then-column-at : goal.returns-then-column-at
 returns-then-column-at c =
-    let l = c.args.layout in let i = c.loop-i.i in
-    let n = columns l (omega arith) c.requires in
-    sym (c.loop-i.invariant.2 ∙ ok_start _ _ (columns_of l) i _ (omega (arith, n)) (column_at l i c.loop-i-test.true) c.if-column-at.true)
+    let l = c.loop-column in
+    sym (l.invariant.1 ∙ ok_start _ _ (columns_of c.args.layout) l.column-index _ c.loop-column-test.true refl c.if-column-at.true)
 
 pub overflow_add-at : goal.overflow_add-at
 overflow_add-at c =
-    let l = c.args.layout in let i = c.loop-i.i in
-    let e : count_ok (get_or l.columns i no_column).form (get_or l.columns i no_column).count ≡ true = cc in
-    omega (arith, c.num_bytes_field-at.ensures, column_limit (get_or l.columns i no_column) e)
+    let column = get_or (columns_of c.args.layout) c.loop-column.column-index no_column in
+    let small = column_limit column (sym c.count_ok.ensures ∙ c.if-not-count_ok.false) in
+    omega (arith, c.num_bytes_field-at.ensures, small, length-take c.args.layout.tfields c.args.layout.columns)
 
-pub loop-i-preserved : goal.loop-i-preserved
-loop-i-preserved c =
-    let l = c.args.layout in let i = c.loop-i.i in
-    let n = columns l (omega arith) c.requires in
-    let e : count_ok (get_or l.columns i no_column).form (get_or l.columns i no_column).count ≡ true = cc in (
-      omega arith,
-      omega (arith, c.num_bytes_field-at.ensures, column_limit (get_or l.columns i no_column) e),
+pub loop-column-preserved : goal.loop-column-preserved
+loop-column-preserved c =
+    let l = c.loop-column in
+    let count = sym c.count_ok.ensures ∙ c.if-not-count_ok.false in
+    let small = column_limit (get_or (columns_of c.args.layout) l.column-index no_column) count in (
+      omega (arith, c.num_bytes_field-at.ensures, small),
       rw c.num_bytes_field-at.ensures
-          (c.loop-i.invariant.2 ∙ ok_next _ _ (columns_of l) i _ (omega (arith, n)) (column_at l i c.loop-i-test.true) e c.if-column-at.false),
+          (l.invariant.1 ∙ ok_next _ _ (columns_of c.args.layout) l.column-index _ c.loop-column-test.true refl count c.if-column-at.false),
     )
 
 pub returns : goal.returns
 returns c =
-    let l = c.args.layout in
-    let n = columns l (omega arith) c.requires in
-    sym (c.loop-i.invariant.2 ∙ ok_end _ _ (columns_of l) c.loop-i.i (omega (arith, n, c.loop-i-test.false)))
+    let l = c.loop-column in
+    sym (l.invariant.1 ∙ ok_end _ _ (columns_of c.args.layout) l.column-index c.loop-column-test.false)

@@ -1,41 +1,41 @@
 -- `put_named` meets its contract: the three tests together say whether there is room.
-use Rattle.std.proofs.Common.{[], ◌∷◌, ◌++◌, length-append, arith}
+use Rattle.std.proofs.Common.{[], ◌∷◌, ◌++◌, length-append, arith, rules, ◌≡◌, ◌∙◌}
+use Rattle.std.specs.Prelude.{None}
 use Rattle.ascii.proofs.Chain.{fitted, joined, no_room, room}
 use Rattle.listing.proofs.lines.put_named.Goals as goal
 
-pub returns-then-out-at : goal.returns-then-out-at
-returns-then-out-at c =
+pub returns-in_err-checked_sub : goal.returns-in_err-checked_sub
+returns-in_err-checked_sub c =
+    let a = c.args in
+    let s = no_room a.out.now a.at (a.start.now ++ (a.name.now ++ (10 ∷ []))) (simp length-append (omega arith)) in
+    let none : c.from_residual.result ≡ None = search rules in
+    record { to = none ∙ s.0; buffer = s.1 }
+
+pub returns-in_err-rest : goal.returns-in_err-rest
+returns-in_err-rest c =
+    let a = c.args in
+    let s = no_room a.out.now a.at (a.start.now ++ (a.name.now ++ (10 ∷ []))) (simp length-append (omega arith)) in
+    let none : c.from_residual-in_err-rest.result ≡ None = search rules in
+    record { to = none ∙ s.0; buffer = s.1 }
+
+pub returns-then-rest-name : goal.returns-then-rest-name
+returns-then-rest-name c =
     let a = c.args in
     let s = no_room a.out.now a.at (a.start.now ++ (a.name.now ++ (10 ∷ []))) (simp length-append (omega arith)) in
     record { to = s.0; buffer = s.1 }
-
-pub returns-then-out-at-2 : goal.returns-then-out-at-2
-returns-then-out-at-2 c =
-    let a = c.args in
-    let s = no_room a.out.now a.at (a.start.now ++ (a.name.now ++ (10 ∷ []))) (simp length-append (omega arith)) in
-    record { to = s.0; buffer = s.1 }
-
-pub returns-then-out-at-3 : goal.returns-then-out-at-3
-returns-then-out-at-3 c =
-    let a = c.args in
-    let s = no_room a.out.now a.at (a.start.now ++ (a.name.now ++ (10 ∷ []))) (simp length-append (omega arith)) in
-    record { to = s.0; buffer = s.1 }
-
-pub put_word-requires : goal.put_word-requires
-put_word-requires c =
-    let a = c.args in
-    let e = c.put-next.ensures in
-    omega (arith, (fitted a.out.now a.at a.start.now (omega arith) (e.place, e.buffer)).0)
 
 pub returns : goal.returns
 returns c =
     let a = c.args in
     let t = a.name.now ++ (10 ∷ []) in
-    let e = c.put-next.ensures in
-    let w = c.put_word.ensures in
-    let start = fitted a.out.now a.at a.start.now (omega arith) (e.place, e.buffer) in
-    let h = simp length-append at w.place in
+    let p = c.put-next in
+    let q = c.put-feed in
+    let r = c.put in
+    let start = fitted a.out.now a.at a.start.now (omega arith) (p.ensures.place, p.ensures.buffer) in
+    let name = fitted p.new.out p.result a.name.now (omega (arith, start.0, p.auto.out)) (q.ensures.place, q.ensures.buffer) in
+    let feed = fitted q.new.out q.result (10 ∷ []) (omega (arith, start.0, p.auto.out, name.0, q.auto.out)) (r.ensures.place, r.ensures.buffer) in
     let s =
     room a.out.now a.at (a.start.now ++ t) (simp length-append (omega arith))
-    (joined a.out.now a.at a.start.now t (omega (arith, start.0)) start (w.place, w.buffer)) in
+    (joined a.out.now a.at a.start.now t (omega (arith, start.0, name.0, feed.0)) start
+    (joined p.new.out p.result a.name.now (10 ∷ []) (omega (arith, start.0, p.auto.out, name.0, feed.0)) name feed)) in
     record { to = s.0; buffer = s.1 }

@@ -1,17 +1,15 @@
--- The loop of `fill_row`: column c is chosen or past the last, and the list after the columns from it on is the list after all of them.
-use Rattle.std.proofs.Common.{◌≡◌, ◌-◌, ◌<◌, true, length}
-use Rattle.walk.specs.Plain.{chosen}
+-- The list after the columns that are left is the list after all of them.
+use Rattle.std.proofs.Common.{◌≡◌, ◌-◌, length}
+use Rattle.table.proofs.Columns.{Over}
 use Rattle.row.specs.Plan.{filled, RowFits}
 use Rattle.row.proofs.fill.fill_row.Given as goal
 
 abbrev pub invariant-loop-c : goal.invariant-loop-c
 invariant-loop-c l =
     let p = l.plan in
+    let c = l.c-iterator.next in
     record {
-      picked : l.c < p.tfields → chosen p.choice l.c ≡ true;
-      same : filled l.columns l.area p l.c (p.tfields - l.c) l.skip l.at l.list ≡ filled l.columns l.area p 0 p.tfields p.passed 0 l.initial.list;
-      fits : RowFits l.columns l.area p l.c (p.tfields - l.c) l.skip l.at (length l.initial.list);
+      over : Over p.cursor.choice p.tfields l.c-iterator;
+      same : filled l.columns l.area p c (p.tfields - c) l.skip l.at l.list ≡ filled l.columns l.area p 0 p.tfields p.cursor.passed 0 l.initial.list;
+      fits : RowFits l.columns l.area p c (p.tfields - c) l.skip l.at (length l.initial.list);
     }
-
-abbrev pub decreases-loop-c : goal.decreases-loop-c
-decreases-loop-c l = l.plan.tfields - l.c

@@ -10,7 +10,6 @@ use Rattle.layout.specs.Layout.{columns_of}
 use Rattle.layout.proofs.Ok.{column_limit}
 use Rattle.walk.specs.Plain.{column_of, chosen, column_size}
 use Rattle.walk.specs.Walk.{gather}
-use Rattle.walk.proofs.Inside.{fits_layout}
 use Rattle.walk.proofs.Laws.{from, from_end}
 use Rattle.table.specs.Scan.{plain_column}
 use Rattle.table.proofs.Scanned.{Summed, summed_next, ready_says, ready_columns, ready_row, ready_few, summed_fits}
@@ -47,19 +46,19 @@ none_later l a choice heap r k h = rw (from_end l a choice heap r k h)
 
 pub bounds-layout-c : goal.bounds-layout-c
 bounds-layout-c c =
-    let y = ready_says c.args.layout c.args.area.now c.args.cursor.choice c.args.cursor.row (sym c.if-not-ready.ensures) in
+    let y = ready_says c.args.layout c.args.area.now c.args.cursor (sym c.if-not-ready.ensures) in
     omega (arith, ready_columns _ _ _ _ y)
 
 pub offset_bounds-layout-c : goal.offset_bounds-layout-c
 offset_bounds-layout-c c =
-    let y = ready_says c.args.layout c.args.area.now c.args.cursor.choice c.args.cursor.row (sym c.if-not-ready.ensures) in
+    let y = ready_says c.args.layout c.args.area.now c.args.cursor (sym c.if-not-ready.ensures) in
     omega (arith, ready_columns _ _ _ _ y)
 
 pub overflow_add-at : goal.overflow_add-at
 overflow_add-at c =
     let l = c.args.layout in
     let k = c.loop-c.c in
-    let y = ready_says l c.args.area.now c.args.cursor.choice c.args.cursor.row (sym c.if-not-ready.ensures) in
+    let y = ready_says l c.args.area.now c.args.cursor (sym c.if-not-ready.ensures) in
     let o = ordered l c.args.cursor.choice k c.loop-c.at _ c.chosen-is_chosen.ensures c.if-not-plain_in_order.ensures in
     omega (arith, c.num_bytes_field-at.ensures, c.loop-c.invariant.summed.bytes, ready_columns _ _ _ _ y, column_limit (column_of l k) o.count)
 
@@ -69,7 +68,7 @@ loop-c-preserved c =
     let a = c.args.area.now in
     let r = c.args.cursor in
     let k = c.loop-c.c in
-    let y = ready_says l a r.choice r.row (sym c.if-not-ready.ensures) in
+    let y = ready_says l a r (sym c.if-not-ready.ensures) in
     let f : length l.columns ≡ 64 = omega arith in
     let o = ordered l r.choice k c.loop-c.at _ c.chosen-is_chosen.ensures c.if-not-plain_in_order.ensures in
     let z = sized l a r.choice r.heap r.row k c.loop-c.at _ c.item_cells-cells.result c.chosen-is_chosen.ensures c.item_cells-cells.ensures o in
@@ -82,29 +81,30 @@ loop-c-preserved c =
       cells = λ w. c.loop-c.invariant.cells (plain_all l a r.choice r.heap r.row k o.plain c.loop-c-test.true (rw add-one at w));
     }
 
-pub rest_plan-requires : goal.rest_plan-requires
-rest_plan-requires c =
+pub invariant_of-row : goal.invariant_of-row
+invariant_of-row c =
     let l = c.args.layout in
     let a = c.args.area.now in
     let r = c.args.cursor in
-    let y = ready_says l a r.choice r.row (sym c.if-not-ready.ensures) in
+    let y = ready_says l a r (sym c.if-not-ready.ensures) in
     let f : length l.columns ≡ 64 = omega arith in
     let e : c.loop-c.c ≡ l.tfields = omega arith in
-    let s = subst (λ (n : ℕ). Summed l a r.choice r.heap r.row n c.loop-c.at c.loop-c.cells) e c.loop-c.invariant.summed in (
-      fits_layout l a (summed_fits l a r c.loop-c.at c.loop-c.cells (full l f (ready_columns _ _ _ _ y)) y s c.if-at-layout.true),
-      ready_row l a r.choice r.row y,
-    )
+    let s = subst (λ (n : ℕ). Summed l a r.choice r.heap r.row n c.loop-c.at c.loop-c.cells) e c.loop-c.invariant.summed in
+    record {
+      fit = summed_fits l a r c.loop-c.at c.loop-c.cells (full l f (ready_columns _ _ _ _ y)) y s c.if-at-naxis1.true;
+      inside = ready_row l a r.choice r.row y;
+    }
 
-pub returns-then-at-layout : goal.returns-then-at-layout
-returns-then-at-layout c =
+pub returns-then-at-naxis1 : goal.returns-then-at-naxis1
+returns-then-at-naxis1 c =
     let l = c.args.layout in
     let a = c.args.area.now in
     let r = c.args.cursor in
-    let y = ready_says l a r.choice r.row (sym c.if-not-ready.ensures) in
+    let y = ready_says l a r (sym c.if-not-ready.ensures) in
     let f : length l.columns ≡ 64 = omega arith in
     let e : c.loop-c.c ≡ l.tfields = omega arith in
     let s = subst (λ (n : ℕ). Summed l a r.choice r.heap r.row n c.loop-c.at c.loop-c.cells) e c.loop-c.invariant.summed in
     c.rest_plan.ensures
     ∙ sym
-    (plain_plan l a r c.loop-c.at c.loop-c.cells c.args.room (full l f (ready_columns _ _ _ _ y)) y s c.if-at-layout.true c.if-cursor-ne0.false
+    (plain_plan l a r c.loop-c.at c.loop-c.cells c.args.room (full l f (ready_columns _ _ _ _ y)) y s c.if-at-naxis1.true c.if-cursor-ne0.false
     (c.loop-c.invariant.cells (none_later l a r.choice r.heap r.row c.loop-c.c c.loop-c-test.false)))

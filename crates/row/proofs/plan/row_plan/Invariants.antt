@@ -1,5 +1,5 @@
 -- The loop of `row_plan`: the bytes and entries of the columns so far, and that the row's entries are all cells if those of the columns that are left are.
-use Rattle.std.proofs.Common.{◌-◌, ◌≤◌}
+use Rattle.std.proofs.Common.{◌≤◌}
 use Rattle.walk.proofs.Laws.{from}
 use Rattle.table.proofs.Scanned.{Summed}
 use Rattle.row.proofs.PlainRow.{AllCells}
@@ -13,6 +13,3 @@ invariant-loop-c l =
       summed : Summed l.layout l.area r.choice r.heap r.row l.c l.at l.cells;
       cells : AllCells (from l.layout l.area r.choice r.heap r.row l.c) → AllCells (from l.layout l.area r.choice r.heap r.row 0);
     }
-
-abbrev pub decreases-loop-c : goal.decreases-loop-c
-decreases-loop-c l = l.layout.tfields - l.c

@@ -1,24 +1,21 @@
--- `all_numbers` meets its contract: a part that is a number leaves it to the parts after it, and one that is none
--- ends it.
-use Rattle.std.proofs.Common.{sym, ◌∙◌, arith}
-use Rattle.steps.proofs.Listing.{all_next, all_stop, all_end}
+-- `all_numbers` meets its contract: the chain asks it of each part.
+use Rattle.std.proofs.Common.{rules, ℕ, ap, ◌∙◌, List}
+use borrow.Author.Tests.{tests}
+use Rattle.std.specs.Prelude.{nat_eq, is_some}
+use Rattle.std.specs.List.{list_all}
+use Rattle.std.proofs.lemmas.Iterator.Search.{all_from_yields_List}
+use Rattle.std.proofs.lemmas.Iterator.Splits.{YieldsList-from_slice_split}
+use Rattle.ascii.specs.Number.{number}
+use Rattle.steps.proofs.Lines.{parts_split}
+use Rattle.steps.proofs.Listing.{all_parts}
 use Rattle.steps.proofs.numbers.all_numbers.Goals as goal
 
-pub loop-at-preserved : goal.loop-at-preserved
-loop-at-preserved c =
-    let s = c.args.text.now in
-    let b = c.part_end-end in (
-      omega (arith, b.ensures.inside),
-      sym (all_next s c.loop-at.at c.loop-at-test.true b.result b.ensures.part _ (sym c.in-Some.ensures))
-          ∙ c.loop-at.invariant.1,
-    )
-
-pub returns-in-None : goal.returns-in-None
-returns-in-None c =
-    let b = c.part_end-end in
-    sym
-    (all_stop c.args.text.now c.loop-at.at c.loop-at-test.true b.result b.ensures.part (sym c.in-None.ensures))
-    ∙ c.loop-at.invariant.1
-
 pub returns : goal.returns
-returns c = sym (all_end c.args.text.now c.loop-at.at c.loop-at-test.false) ∙ c.loop-at.invariant.1
+returns c =
+    let s = c.args.text.now in
+    let e = c.split.ensures in
+    all_from_yields_List (λ (p : List ℕ). is_some (number p)) _ _ c.all.result c.all.ensures.ran
+    (YieldsList-from_slice_split _ (λ (b : ℕ). nat_eq b 32) s e.rest e.done e.closure (λ x b q k. search (rules, tests)))
+    (λ x b q k. search (rules, tests))
+    ∙ ap (list_all (λ (p : List ℕ). is_some (number p))) (parts_split s)
+    ∙ all_parts _

@@ -13,31 +13,31 @@ any_items-requires c = (fits_limits c.args.layout c.args.area.now c.requires).co
 pub returns-then-not-any_items : goal.returns-then-not-any_items
 returns-then-not-any_items c =
     let none = sym c.any_items.ensures ∙ c.if-not-any_items.true in
-    rw (next_none (row_entries c.args.layout c.args.area.now c.args.choice c.args.heap) c.args.layout.naxis2
-    (λ r. row_none c.args.layout c.args.area.now c.args.choice c.args.heap r none)
-    (c.args.layout.naxis2 - c.args.row) c.args.row c.args.passed)
+    rw (next_none (row_entries c.args.layout c.args.area.now c.args.cursor.choice c.args.cursor.heap) c.args.layout.naxis2
+    (λ r. row_none c.args.layout c.args.area.now c.args.cursor.choice c.args.cursor.heap r none)
+    (c.args.layout.naxis2 - c.args.cursor.row) c.args.cursor.row c.args.cursor.passed)
 
-pub returns-then-p-size : goal.returns-then-p-size
-returns-then-p-size c =
+pub returns-then-passed-size : goal.returns-then-passed-size
+returns-then-passed-size c =
     rw (
-      c.loop-r.invariant,
-      next_here (row_entries c.args.layout c.args.area.now c.args.choice c.args.heap) c.args.layout.naxis2 c.loop-r.r
-          c.loop-r.p c.loop-r-test.true (rw c.row_size-size.ensures at c.if-p-size.true),
-      c.row_size-size.ensures,
+      c.loop-row.invariant,
+      next_here (row_entries c.args.layout c.args.area.now c.args.cursor.choice c.args.cursor.heap) c.args.layout.naxis2 c.loop-row.row
+          c.loop-row.passed c.loop-row-test.true (rw c.size-size.ensures at c.if-passed-size.true),
+      c.size-size.ensures,
     )
 
-pub loop-r-preserved : goal.loop-r-preserved
-loop-r-preserved c =
-    let rows = row_entries c.args.layout c.args.area.now c.args.choice c.args.heap in
+pub loop-row-preserved : goal.loop-row-preserved
+loop-row-preserved c =
+    let rows = row_entries c.args.layout c.args.area.now c.args.cursor.choice c.args.cursor.heap in
     let n = c.args.layout.naxis2 in
-    c.loop-r.invariant
-    ∙ next_skip rows n c.loop-r.r c.loop-r.p c.loop-r-test.true (rw c.row_size-size.ensures at c.if-p-size.false)
-    ∙ ap (λ (r : ℕ). next rows n (n - r) r 0) (sym (add-one c.loop-r.r))
+    c.loop-row.invariant
+    ∙ next_skip rows n c.loop-row.row c.loop-row.passed c.loop-row-test.true (rw c.size-size.ensures at c.if-passed-size.false)
+    ∙ ap (λ (r : ℕ). next rows n (n - r) r 0) (sym (add-one c.loop-row.row))
 
 pub returns : goal.returns
 returns c =
     rw (
-      c.loop-r.invariant,
-      next_end (row_entries c.args.layout c.args.area.now c.args.choice c.args.heap) c.args.layout.naxis2 c.loop-r.r
-          c.loop-r.p c.loop-r-test.false,
+      c.loop-row.invariant,
+      next_end (row_entries c.args.layout c.args.area.now c.args.cursor.choice c.args.cursor.heap) c.args.layout.naxis2 c.loop-row.row
+          c.loop-row.passed c.loop-row-test.false,
     )

@@ -8,23 +8,31 @@ use Rattle.walk.proofs.Steps.{belongs_fits, cell_at}
 use Rattle.table.proofs.Places.{place_at, place_none}
 use Rattle.table.proofs.step.read_cell.Goals as goal
 
-pub find_entry-place-requires : goal.find_entry-place-requires
-find_entry-place-requires c = belongs_fits c.args.layout c.args.area.now c.args.cursor c.requires
+pub find_entry-requires : goal.find_entry-requires
+find_entry-requires c = belongs_fits c.args.layout c.args.area.now c.args.cursor c.requires
 
-pub entry_at-entry-requires : goal.entry_at-entry-requires
-entry_at-entry-requires c =
+pub invariant_of-here : goal.invariant_of-here
+invariant_of-here c =
     let rows = row_entries c.args.layout c.args.area.now c.args.cursor.choice c.args.cursor.heap in
     let n = c.args.layout.naxis2 in
-    let f = place_at rows n (next rows n (n - c.args.cursor.row) c.args.cursor.row c.args.cursor.passed) c.in-Some.field-0
-    (is_next rows n c.args.cursor.row c.args.cursor.passed) (sym c.find_entry-place.ensures ∙ c.in-Some.is) in
-    (belongs_fits c.args.layout c.args.area.now c.args.cursor c.requires, f.1.1.1, rw f.1.0 at f.1.1.0)
+    let f = place_at rows n (next rows n (n - c.args.cursor.row) c.args.cursor.row c.args.cursor.passed) c.in-Some.place
+    (is_next rows n c.args.cursor.row c.args.cursor.passed) (sym c.find_entry.ensures ∙ c.in-Some.is) in
+    record { fit = belongs_fits c.args.layout c.args.area.now c.args.cursor c.requires; inside = rw c.placed-2.ensures f.1.1.1 }
+
+pub entry-requires : goal.entry-requires
+entry-requires c =
+    let rows = row_entries c.args.layout c.args.area.now c.args.cursor.choice c.args.cursor.heap in
+    let n = c.args.layout.naxis2 in
+    let f = place_at rows n (next rows n (n - c.args.cursor.row) c.args.cursor.row c.args.cursor.passed) c.in-Some.place
+    (is_next rows n c.args.cursor.row c.args.cursor.passed) (sym c.find_entry.ensures ∙ c.in-Some.is) in
+    rw c.placed-2.ensures (rw f.1.0 at f.1.1.0)
 
 pub read_entry-requires : goal.read_entry-requires
 read_entry-requires c =
     let rows = row_entries c.args.layout c.args.area.now c.args.cursor.choice c.args.cursor.heap in
     let n = c.args.layout.naxis2 in
-    let f = place_at rows n (next rows n (n - c.args.cursor.row) c.args.cursor.row c.args.cursor.passed) c.in-Some.field-0
-    (is_next rows n c.args.cursor.row c.args.cursor.passed) (sym c.find_entry-place.ensures ∙ c.in-Some.is) in (
+    let f = place_at rows n (next rows n (n - c.args.cursor.row) c.args.cursor.row c.args.cursor.passed) c.in-Some.place
+    (is_next rows n c.args.cursor.row c.args.cursor.passed) (sym c.find_entry.ensures ∙ c.in-Some.is) in (
       omega (
         arith,
         f.1.1.1,
@@ -37,10 +45,10 @@ pub returns : goal.returns
 returns c =
     let rows = row_entries c.args.layout c.args.area.now c.args.cursor.choice c.args.cursor.heap in
     let n = c.args.layout.naxis2 in
-    let f = place_at rows n (next rows n (n - c.args.cursor.row) c.args.cursor.row c.args.cursor.passed) c.in-Some.field-0
-    (is_next rows n c.args.cursor.row c.args.cursor.passed) (sym c.find_entry-place.ensures ∙ c.in-Some.is) in
+    let f = place_at rows n (next rows n (n - c.args.cursor.row) c.args.cursor.row c.args.cursor.passed) c.in-Some.place
+    (is_next rows n c.args.cursor.row c.args.cursor.passed) (sym c.find_entry.ensures ∙ c.in-Some.is) in
     c.read_entry.ensures
-    ∙ rw (c.entry_at-entry.ensures, f.1.0) (sym (cell_at c.args.layout c.args.area.now c.args.cursor c.requires _ f.0))
+    ∙ rw (c.entry.ensures, c.placed-2.ensures, f.1.0) (sym (cell_at c.args.layout c.args.area.now c.args.cursor c.requires _ f.0))
 
 pub returns-in_default : goal.returns-in_default
 returns-in_default c =
@@ -50,4 +58,4 @@ returns-in_default c =
     (sym
     (cell_at c.args.layout c.args.area.now c.args.cursor c.requires no_entry
     (place_none rows n (next rows n (n - c.args.cursor.row) c.args.cursor.row c.args.cursor.passed)
-    (sym c.find_entry-place.ensures ∙ c.in_default.is))))
+    (sym c.find_entry.ensures ∙ c.in_default.is))))

@@ -1,8 +1,0 @@
--- `planned_cell` meets its contract: an item has a byte at least, so the index fits 64 bits where the place does.
-use Rattle.std.proofs.Common.{◌+◌, arith}
-use Rattle.std.proofs.Math.Nat.{mul-le-mul_left}
-use Rattle.cell.proofs.Widths.{width_pos}
-use Rattle.row.proofs.fill.planned_cell.Goals as goal
-
-pub overflow_add-idx : goal.overflow_add-idx
-overflow_add-idx c = omega (arith, mul-le-mul_left (c.args.plan.first + c.args.i) (width_pos c.args.plan.ty))

@@ -1,0 +1,15 @@
+-- `line_len` meets its contract: it counts what `take_while` takes.
+use Rattle.std.proofs.Common.{◌∙◌, ℕ, rules, tests}
+use Rattle.std.specs.Prelude.{nat_eq, not}
+use Rattle.std.proofs.lemmas.Iterator.{YieldsList-from_slice}
+use Rattle.std.proofs.lemmas.Iterator.Consumers.{count_from_yields_List}
+use Rattle.std.proofs.lemmas.Iterator.Search.{YieldsList-from_take_while}
+use Rattle.steps.proofs.Lines.{front_taken}
+use Rattle.steps.proofs.line_len.Goals as goal
+
+pub returns : goal.returns
+returns c =
+    count_from_yields_List c.take_while.result _ c.count.ensures.ran
+    (YieldsList-from_take_while _ (λ (b : ℕ). not (nat_eq b 10)) (YieldsList-from_slice c.args.text.now (cc)) c.take_while.ensures.closure
+    c.take_while.ensures.done (λ x b q k. search (rules, tests)))
+    ∙ front_taken (λ (b : ℕ). not (nat_eq b 10)) c.args.text.now
