@@ -5,16 +5,20 @@ ghost use Rattle.keyword.specs.Names.{column_slots};
 ghost use Rattle.refusal.specs.Refusal.{accepted, refused, before, outcome_of};
 ghost use Rattle.header.specs.Checks.{index_by, checked};
 ghost use Rattle.layout.specs.Layout.{tfields_limit, no_column, row_bytes};
-ghost use Rattle.bintable.specs.Checks.{size_for};
+ghost use Rattle.tform.specs.declared.TForm.{TForm};
+ghost use Rattle.bintable.specs.Checks.{size_for, tform_of, ttype_of, check8};
 ghost use Rattle.layout.specs.declared.BinTable.{BinTable};
 ghost use Rattle.layout.specs.declared.Column.{Column};
 ghost use Rattle.bintable.specs.Entry.{column_check, column_checks, name_in, theap_in, column_at};
 ghost use Rattle.bintable.specs.Entry.{columns_from, nine_checks, layout_of, check9, entry_of, entry};
 
-use super::{Indexed, checks, text};
+use crate::Indexed;
+use crate::record::KeywordRecord;
 use card::Value;
+use keyword::Keyword;
 use layout::{BinTable, Column, NO_COLUMN, Name, TFIELDS_LIMIT};
 use refusal::Refusal;
+use tform::TForm;
 
 // The columns up to TFIELDS, in the array of a layout, and the bytes that they take in a row.
 #[derive(Clone, Copy)]
@@ -37,14 +41,24 @@ fn name_in(value: Option<Value>) -> Option<Name>
     })
 }
 
-// Where the heap starts: at the main size, if THEAP is missing.
-fn heap_start(main: u64, value: Option<Value>, found: Option<usize>) -> u64
-    ensures { result ≡ theap_in main value found }
-{
-    match found {
-        Some(_) => checks::size(value),
-        None => main,
+impl KeywordRecord<'_> {
+    // Where the heap starts: at the main size, if THEAP is missing.
+    fn heap_start(&self, main: u64) -> u64
+        ensures { result ≡ theap_in main self.now.value self.now.number }
+    {
+        match self.number() {
+            Some(_) => self.size(),
+            None => main,
+        }
     }
+}
+
+// The form that passes check 8.
+fn check8(n: usize, form: Option<TForm>) -> Result<TForm, Refusal>
+    ensures check { outcome_of result ≡ check8 n form }
+    ensures form { IfOk result (λ (f : TForm). form ≡ Some f) }
+{
+    form.ok_or(Refusal::BadForm { n })
 }
 
 fn check9(bytes: u64, naxis1: u64) -> Result<(), Refusal>
@@ -65,27 +79,44 @@ fn check10(size: u64, len: usize) -> Result<(), Refusal>
     Err(Refusal::Mismatch)
 }
 
-impl Indexed<'_> {
+impl<'a> Indexed<'a> {
+    // The record of TFORMn for column i, from 0, and that of TTYPEn.
+    #[tactic(auto, using(crate::proofs::Index::form_name))]
+    fn form_record(&self, i: usize) -> KeywordRecord<'a>
+        requires { i < column_slots }
+        ensures header { result.header.now ≡ self.now.header.now }
+        ensures number { result.number ≡ tform_of self.now.header.now (i + 1) }
+    {
+        self.record(keyword::TFORM1 + i)
+    }
+
+    #[tactic(auto, using(crate::proofs::Index::type_name))]
+    fn name_record(&self, i: usize) -> KeywordRecord<'a>
+        requires { i < column_slots }
+        ensures header { result.header.now ≡ self.now.header.now }
+        ensures number { result.number ≡ ttype_of self.now.header.now (i + 1) }
+    {
+        self.record(keyword::TTYPE1 + i)
+    }
+
     // Column i, from 0, which starts at byte `start` of a row.
-    #[tactic(auto, using(crate::proofs::Index::at_tform, crate::proofs::Index::at_ttype), unfolding(crate::specs::Checks::first_refusal, crate::specs::Entry::column_check))]
+    #[tactic(auto, unfolding(crate::specs::Checks::first_refusal, crate::specs::Entry::column_check))]
     fn read_column(&self, i: usize, start: u64) -> Result<Column, Refusal>
         requires { (length self.now.header.now < 2 ^ 32) × (i < column_slots) }
         ensures check { outcome_of result ≡ column_check self.now.header.now (i + 1) }
         ensures column { IfOk result (λ (c : Column). c ≡ column_at self.now.header.now (i + 1) start) }
     {
-        let form_record = self.record(keyword::TFORM1 + i);
-        let name_record = self.record(keyword::TTYPE1 + i);
-        let value = checks::value_of(self.header, form_record);
-        let name = checks::value_of(self.header, name_record);
-        checks::check4(form_record, i + 1)?;
-        checks::check5(checks::is_string(value), form_record)?;
-        let tform = checks::check8(i + 1, tform::parse_tform(text::text_of(self.header, value)))?;
-        checks::check5(checks::is_string(name), name_record)?;
+        let form = self.form_record(i);
+        let name = self.name_record(i);
+        form.check4(i + 1)?;
+        form.check5(form.is_string())?;
+        let tform = check8(i + 1, tform::parse_tform(form.text()))?;
+        name.check5(name.is_string())?;
         Ok(Column {
             form: tform.form,
             count: tform.count,
             start,
-            name: name_in(name),
+            name: name_in(name.value()),
         })
     }
 
@@ -116,12 +147,11 @@ impl Indexed<'_> {
             (check9 (layout_of self.now.header.now)) }
         ensures layout { IfOk result (λ (l : BinTable). l ≡ layout_of self.now.header.now) }
     {
-        let naxis1 = checks::size_of(self.header, self.record(keyword::NAXIS1));
-        let naxis2 = checks::size_of(self.header, self.record(keyword::NAXIS2));
-        let pcount = checks::size_of(self.header, self.record(keyword::PCOUNT));
-        let tfields = checks::size_of(self.header, self.record(keyword::TFIELDS)) as usize;
-        let found = self.record(keyword::THEAP);
-        let theap = heap_start(naxis1 * naxis2, checks::value_of(self.header, found), found);
+        let naxis1 = self.size(Keyword::Naxis1);
+        let naxis2 = self.size(Keyword::Naxis2);
+        let pcount = self.size(Keyword::Pcount);
+        let tfields = self.size(Keyword::Tfields) as usize;
+        let theap = self.find(Keyword::Theap).heap_start(naxis1 * naxis2);
         let read = self.read_columns(tfields)?;
         let columns = read.columns;
         check9(read.bytes, naxis1)?;

@@ -1,17 +1,20 @@
 // The entry: for a header and a data area, the layout of a table or a refusal.
 #![tactic(auto)]
 
-mod checks;
 mod columns;
 mod keywords;
-mod text;
+mod record;
 
-ghost use Rattle.std.specs.Prelude.{◌≡◌};
-ghost use Rattle.header.specs.Checks.{index_by, first_at};
+ghost use Rattle.std.specs.Prelude.{◌≡◌, [], ◌<◌, length, get_or};
+ghost use Rattle.keyword.specs.Names.{slot_names, text_of};
+ghost use Rattle.header.specs.Checks.{index_by, record_of};
+ghost use Rattle.bintable.specs.Checks.{size_in, value_at};
 ghost use Rattle.bintable.specs.Entry.{entry, entry_of};
 
 use header::Entry;
+use keyword::Keyword;
 use layout::BinTable;
+use record::KeywordRecord;
 use refusal::Refusal;
 
 // A header with its index.
@@ -22,12 +25,30 @@ struct Indexed<'a> {
     ghost of_header: { index.now ≡ index_by header.now },
 }
 
-impl Indexed<'_> {
+impl<'a> Indexed<'a> {
     // The first record that has the name of a slot.
-    fn record(&self, slot: usize) -> Option<usize>
-        ensures { result ≡ first_at self.now.index.now slot }
+    #[tactic(auto, using(header::proofs::Lookup::slot_first))]
+    fn record(&self, slot: usize) -> KeywordRecord<'a>
+        requires { slot < length slot_names }
+        ensures header { result.header.now ≡ self.now.header.now }
+        ensures number { result.number ≡ record_of self.now.header.now (get_or slot_names slot []) }
     {
-        header::record_of(self.index, slot)
+        KeywordRecord::new(self.header, header::record_of(self.index, slot))
+    }
+
+    // That of a name which is not numbered by column.
+    fn find(&self, keyword: Keyword) -> KeywordRecord<'a>
+        ensures header { result.header.now ≡ self.now.header.now }
+        ensures number { result.number ≡ record_of self.now.header.now (text_of keyword) }
+    {
+        self.record(keyword.slot())
+    }
+
+    // The number of its value, 0 where there is none.
+    fn size(&self, keyword: Keyword) -> u64
+        ensures { result ≡ size_in (value_at self.now.header.now (record_of self.now.header.now (text_of keyword))) }
+    {
+        self.find(keyword).size()
     }
 }
 

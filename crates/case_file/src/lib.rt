@@ -1,17 +1,15 @@
-// What the programs that read a file of cases share: the numbers and blocks of such a file, the loop over its cases,
-// and how a refusal is printed.
+// What the programs that read a file of cases share: the numbers and blocks of such a file, and the loop over its
+// cases.
 #![tactic(auto)]
 
-ghost use Rattle.std.specs.Prelude.{◌≡◌, ◌+◌, ◌<◌, ◌++◌, length, drop, codes, Some, IfSome, MatchOption};
-ghost use Rattle.std.specs.Fmt.{decimal};
+ghost use Rattle.std.specs.Prelude.{◌≡◌, ◌+◌, ◌<◌, length, drop, IfSome, MatchOption};
 ghost use Rattle.std.specs.Iterator.{at_most};
 ghost use Rattle.std.specs.List.{IsSplitAt};
-ghost use Rattle.refusal.specs.Refusal.{number_of, place_of};
 ghost use Rattle.case_file.specs.Number.{front_number};
 
 use refusal::Refusal;
 use std::marker::PhantomData;
-use std::{fmt, io};
+use std::io;
 
 // The number that the first four bytes say, high byte first, and what stands after it; none where there are fewer.
 pub fn split_number(bytes: &[u8]) -> Option<(u32, &[u8])>
@@ -33,25 +31,11 @@ pub fn split_block(bytes: &[u8]) -> Option<(&[u8], &[u8])>
     rest.split_at_checked(len as usize)
 }
 
-// A refusal, shown by the number and place that docs/FORMAT.md gives.
-#[derive(Clone, Copy)]
-pub struct Refused(pub Refusal);
-
-impl fmt::Display for Refused {
-    ghost output = { λ r. Some (codes "refused " ++ decimal (number_of r.0) ++ codes " " ++ decimal (place_of r.0)) };
-
-    fn fmt<W: fmt::Write>(&self, f: &mut fmt::Formatter<W>) -> fmt::Result {
-        let number = refusal::number(self.0);
-        let place = refusal::place(self.0);
-        write!(f, "refused {number} {place}")
-    }
-}
-
 // Prints what the checks come to: the refusal, or the word where there is none.
 pub fn print_check(rt: &impl Print, refusal: Option<Refusal>, passed: &str) -> io::Result<()> {
     match refusal {
         None => println!(rt; "{passed}"),
-        Some(refusal) => println!(rt; "{}", Refused(refusal)),
+        Some(refusal) => println!(rt; "{refusal}"),
     }
 }
 

@@ -3,6 +3,8 @@
 use Rattle.std.specs.Prelude.{ℕ, zero, suc, ◌+◌, ◌/◌, ◌%◌, cond, ltb, Option, Some, None}
 use mathlib.Core.List.{List, [], ◌∷◌, ◌++◌, map, flat_map}
 use Rattle.ascii.specs.Text.{bytes, same}
+use Rattle.keyword.specs.declared.Keyword.{Keyword}
+use Rattle.keyword.specs.declared.Keyword.TheVariants as K
 
 -- count numbers from n on
 unfoldable pub range : ℕ → ℕ → List ℕ
@@ -32,6 +34,18 @@ indexed count root = map (λ (n : ℕ). root ++ numeral n) (range 1 count)
 unfoldable pub single : List (List ℕ)
 single =
     bytes "XTENSION" ∷ bytes "BITPIX" ∷ bytes "NAXIS" ∷ bytes "NAXIS1" ∷ bytes "NAXIS2" ∷ bytes "PCOUNT" ∷ bytes "GCOUNT" ∷ bytes "TFIELDS" ∷ bytes "THEAP" ∷ []
+
+-- the text of each
+abbrev pub text_of : Keyword → List ℕ
+text_of K.Xtension = bytes "XTENSION"
+text_of K.Bitpix = bytes "BITPIX"
+text_of K.Naxis = bytes "NAXIS"
+text_of K.Naxis1 = bytes "NAXIS1"
+text_of K.Naxis2 = bytes "NAXIS2"
+text_of K.Pcount = bytes "PCOUNT"
+text_of K.Gcount = bytes "GCOUNT"
+text_of K.Tfields = bytes "TFIELDS"
+text_of K.Theap = bytes "THEAP"
 
 -- the roots of the numbered names that must not stand twice (section 5), and those whose second record is another
 -- refusal

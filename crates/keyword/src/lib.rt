@@ -1,10 +1,10 @@
 // The used names of a header and their places (docs/FORMAT.md, section 4).
 #![tactic(auto)]
 
-ghost use Rattle.std.specs.Prelude.{◌≡◌, cond, ◌+◌, ◌*◌, ◌<◌, ltb, length, take};
+ghost use Rattle.std.specs.Prelude.{◌≡◌, [], cond, ◌+◌, ◌*◌, ◌<◌, ltb, length, take, get_or};
 ghost use mathlib.Core.List.{map};
 ghost use Rattle.keyword.specs.Names.{index_limit, column_slots, once_roots, roots, slot_names, once_names};
-ghost use Rattle.keyword.specs.Names.{position, further, single, numeral, range};
+ghost use Rattle.keyword.specs.Names.{position, further, single, numeral, range, text_of};
 
 // Where a name stands: its slot, and its place among the names that must not stand twice (specs/Names).
 #[derive(Clone, Copy)]
@@ -21,30 +21,34 @@ pub const COLUMN_SLOTS: usize = 64;
 // How many digits such an n has at most.
 const INDEX_DIGITS: usize = 3;
 
-// The slots of the names that are not numbered by column, in the order of the list. They are no enum, since they are
-// places of an array, and the numbered names have the places after them.
-pub const XTENSION: usize = 0;
+// The names that are not numbered by column. They have the first slots, in the order of this list.
+#[derive(Clone, Copy)]
+pub enum Keyword {
+    Xtension,
+    Bitpix,
+    Naxis,
+    Naxis1,
+    Naxis2,
+    Pcount,
+    Gcount,
+    Tfields,
+    Theap,
+}
 
-pub const BITPIX: usize = 1;
-
-pub const NAXIS: usize = 2;
-
-pub const NAXIS1: usize = 3;
-
-pub const NAXIS2: usize = 4;
-
-pub const PCOUNT: usize = 5;
-
-pub const GCOUNT: usize = 6;
-
-pub const TFIELDS: usize = 7;
-
-pub const THEAP: usize = 8;
+impl Keyword {
+    // The slot of the name.
+    pub fn slot(self) -> usize
+        ensures name { get_or slot_names result [] ≡ text_of self }
+        ensures inside { result < length slot_names }
+    {
+        self as usize
+    }
+}
 
 // How many these are.
-const SINGLE: usize = THEAP + 1;
+const SINGLE: usize = 9;
 
-// Their names, each in the place of its slot.
+// Their texts, each in the place of its slot.
 const SINGLE_NAMES: [&[u8]; SINGLE] = [
     b"XTENSION",
     b"BITPIX",

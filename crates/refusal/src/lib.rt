@@ -1,8 +1,11 @@
 // The refusals: their causes, and the number and the place of each (docs/FORMAT.md, section 10).
 #![tactic(auto)]
 
-ghost use Rattle.std.specs.Prelude.{◌≡◌};
+ghost use Rattle.std.specs.Prelude.{◌≡◌, ◌++◌, codes, Some};
+ghost use Rattle.std.specs.Fmt.{decimal};
 ghost use Rattle.refusal.specs.Refusal.{number_of, place_of};
+
+use std::fmt;
 
 // The causes of a refusal. docs/FORMAT.md, section 10, gives each its number and place.
 #[derive(Clone, Copy)]
@@ -24,6 +27,17 @@ pub enum Refusal {
     NoSuchRow { row: usize },
     ArrayOutsideHeap { column: usize },
     ShortList { cells: u64 },
+}
+
+// `refused`, the number and the place.
+impl fmt::Display for Refusal {
+    ghost output = { λ r. Some (codes "refused " ++ decimal (number_of r) ++ codes " " ++ decimal (place_of r)) };
+
+    fn fmt<W: fmt::Write>(&self, f: &mut fmt::Formatter<W>) -> fmt::Result {
+        let number = number(*self);
+        let place = place(*self);
+        write!(f, "refused {number} {place}")
+    }
 }
 
 // The number of a refusal. It has a place too, so neither is a `From`.

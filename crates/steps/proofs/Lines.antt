@@ -51,7 +51,7 @@ module _ (s : List ℕ) (at : ℕ) where
   pub line_length : at < length s → length (line_at s at) ≡ before 10 (drop at s)
   line_length h = length-take-le (before 10 (drop at s)) (drop at s) (rw (length-drop at s) (omega (arith, line_inside h)))
 
-  after : (n : ℕ) → drop (suc n) (drop at s) ≡ drop (at + n + 1) s
+  pub after : (n : ℕ) → drop (suc n) (drop at s) ≡ drop (at + n + 1) s
   after n = let e : at + suc n ≡ at + n + 1 = omega arith in drop-drop (suc n) at s ∙ ap (λ (k : ℕ). drop k s) e
 
   pub lines_next : at < length s → lines_of (drop at s) ≡ take (before 10 (drop at s)) (drop at s) ∷ lines_of (drop (at + before 10 (drop at s) + 1) s)

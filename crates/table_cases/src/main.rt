@@ -22,7 +22,7 @@ mod shown;
 
 ghost use Rattle.std.specs.Prelude.{◌<◌, length, IfSome};
 
-use case_file::{Case, Refused};
+use case_file::Case;
 use file::{Step, TableCase};
 use layout::BinTable;
 use reader::Reader;
@@ -86,12 +86,12 @@ impl<'a> Case<'a> for TableCase<'a> {
         let header = self.header(rt.alloc())?;
         let layout = match bintable::parse(header.as_slice(), self.entry) {
             Ok(layout) => layout,
-            Err(refusal) => return println!(rt; "{}", Refused(refusal)),
+            Err(refusal) => return println!(rt; "{refusal}"),
         };
         println!(rt; "accepted")?;
         let mut cursor = match self.open(rt.alloc(), layout)? {
             Ok(cursor) => cursor,
-            Err(refusal) => return println!(rt; "{}", Refused(refusal)),
+            Err(refusal) => return println!(rt; "{refusal}"),
         };
         println!(rt; "opened")?;
         println!(rt; "{}", Shown(cursor))?;

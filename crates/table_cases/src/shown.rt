@@ -1,5 +1,4 @@
 // What is printed of an answer and of a cursor.
-use case_file::Refused;
 use cell::{Cell, DataValue, Logical};
 use refusal::Refusal;
 use std::fmt;
@@ -70,32 +69,39 @@ impl fmt::Display for Shown<Cell> {
     }
 }
 
-// What a cell read, a row read and a seek answer.
-impl fmt::Display for Shown<Result<Option<Cell>, Refusal>> {
+// What a step answers: a cell, the count of a row read, or that a row was sought; the end; or a refusal.
+impl fmt::Display for Shown<u64> {
+    fn fmt<W: fmt::Write>(&self, f: &mut fmt::Formatter<W>) -> fmt::Result {
+        write!(f, "row {}", self.0)
+    }
+}
+
+impl fmt::Display for Shown<()> {
+    fn fmt<W: fmt::Write>(&self, f: &mut fmt::Formatter<W>) -> fmt::Result {
+        write!(f, "sought")
+    }
+}
+
+impl<T: Copy> fmt::Display for Shown<Option<T>>
+where
+    Shown<T>: fmt::Display,
+{
     fn fmt<W: fmt::Write>(&self, f: &mut fmt::Formatter<W>) -> fmt::Result {
         match self.0 {
-            Ok(Some(cell)) => write!(f, "{}", Shown(cell)),
-            Ok(None) => write!(f, "end"),
-            Err(refusal) => write!(f, "{}", Refused(refusal)),
+            Some(value) => write!(f, "{}", Shown(value)),
+            None => write!(f, "end"),
         }
     }
 }
 
-impl fmt::Display for Shown<Result<Option<u64>, Refusal>> {
+impl<T: Copy> fmt::Display for Shown<Result<T, Refusal>>
+where
+    Shown<T>: fmt::Display,
+{
     fn fmt<W: fmt::Write>(&self, f: &mut fmt::Formatter<W>) -> fmt::Result {
         match self.0 {
-            Ok(Some(cells)) => write!(f, "row {cells}"),
-            Ok(None) => write!(f, "end"),
-            Err(refusal) => write!(f, "{}", Refused(refusal)),
-        }
-    }
-}
-
-impl fmt::Display for Shown<Result<(), Refusal>> {
-    fn fmt<W: fmt::Write>(&self, f: &mut fmt::Formatter<W>) -> fmt::Result {
-        match self.0 {
-            Ok(()) => write!(f, "sought"),
-            Err(refusal) => write!(f, "{}", Refused(refusal)),
+            Ok(value) => write!(f, "{}", Shown(value)),
+            Err(refusal) => write!(f, "{refusal}"),
         }
     }
 }

@@ -2,31 +2,24 @@
 use Rattle.std.proofs.Common.{◌≡◌, ℕ, List, cond, eqb, rules, ap, ap₂, ◌∙◌, arith}
 use Rattle.refusal.specs.Refusal.{Outcome, accepted, refused, before}
 use Rattle.layout.specs.Layout.{row_bytes}
-use Rattle.bintable.specs.Checks.{size_for, record_for}
-use Rattle.bintable.specs.Entry.{column_checks, columns_from, layout_of, check9}
+use Rattle.bintable.specs.Checks.{value_at, size_for, record_for}
+use Rattle.bintable.specs.Entry.{column_checks, columns_from, main_of, theap_in, layout_of, check9}
 use Rattle.bintable.proofs.Bounds.{main_limit}
-use Rattle.bintable.proofs.Index.{at_naxis1, at_naxis2, at_pcount, at_tfields, at_theap}
 use Rattle.bintable.proofs.Entered.{nine_sizes, nine_tfields, row_check, header_short}
 use Rattle.bintable.proofs.Indexed.read_layout.Goals as goal
 
 pub overflow_mul-naxis1 : goal.overflow_mul-naxis1
 overflow_mul-naxis1 c =
-    let h = c.args.self.now.header.now in
-    let a : c.size_of-naxis1.result ≡ size_for h "NAXIS1" = cc (at_naxis1 c.args.self.now) in
-    let b : c.size_of-naxis2.result ≡ size_for h "NAXIS2" = cc (at_naxis2 c.args.self.now) in
-    rw (a, b) (omega (arith, main_limit h (nine_sizes h c.requires.1)))
+    rw (c.size-naxis1.ensures, c.size-naxis2.ensures) (omega (arith, main_limit c.args.self.now.header.now (nine_sizes c.args.self.now.header.now c.requires.1)))
 
 pub read_columns-requires : goal.read_columns-requires
 read_columns-requires c =
     let h = c.args.self.now.header.now in
-    let t : c.size_of-tfields.result ≡ size_for h "TFIELDS" = cc (at_tfields c.args.self.now) in
-    ((header_short h c.requires.0, rw t (nine_tfields h c.requires.1)))
+    ((header_short h c.requires.0, rw c.size-tfields.ensures (nine_tfields h c.requires.1)))
 
 pub returns-in_err-read-clause-check : goal.returns-in_err-read-clause-check
 returns-in_err-read-clause-check c =
-    let h = c.args.self.now.header.now in
-    let t : c.size_of-tfields.result ≡ size_for h "TFIELDS" = cc (at_tfields c.args.self.now) in
-    let e = c.in_err-read.ensures.check ∙ ap (column_checks h) t in
+    let e = c.in_err-read.ensures.check ∙ ap (column_checks c.args.self.now.header.now) c.size-tfields.ensures in
     search (rules, e)
 
 -- the columns pass, and check 9 is that of the layout
@@ -40,28 +33,18 @@ row_after h bytes naxis1 tfields o passed b t n e =
 
 pub returns-in_err-check9-clause-check : goal.returns-in_err-check9-clause-check
 returns-in_err-check9-clause-check c =
-    let h = c.args.self.now.header.now in
-    let a : c.size_of-naxis1.result ≡ size_for h "NAXIS1" = cc (at_naxis1 c.args.self.now) in
-    let t : c.size_of-tfields.result ≡ size_for h "TFIELDS" = cc (at_tfields c.args.self.now) in
     let read = c.in_ok-read.ensures in
-    let e = row_after h _ _ _ _ read.check read.columns.1 t a c.in_err-check9.ensures in
+    let e = row_after c.args.self.now.header.now _ _ _ _ read.check read.columns.1 c.size-tfields.ensures c.size-naxis1.ensures c.in_err-check9.ensures in
     search (rules, e)
 
 pub returns-clause-check : goal.returns-clause-check
 returns-clause-check c =
-    let h = c.args.self.now.header.now in
-    let a : c.size_of-naxis1.result ≡ size_for h "NAXIS1" = cc (at_naxis1 c.args.self.now) in
-    let t : c.size_of-tfields.result ≡ size_for h "TFIELDS" = cc (at_tfields c.args.self.now) in
     let read = c.in_ok-read.ensures in
-    row_after h _ _ _ _ read.check read.columns.1 t a c.in_ok-check9.ensures
+    row_after c.args.self.now.header.now _ _ _ _ read.check read.columns.1 c.size-tfields.ensures c.size-naxis1.ensures c.in_ok-check9.ensures
 
 pub returns-clause-layout : goal.returns-clause-layout
 unfolding layout_of
 returns-clause-layout c =
     let h = c.args.self.now.header.now in
-    let a : c.size_of-naxis1.result ≡ size_for h "NAXIS1" = cc (at_naxis1 c.args.self.now) in
-    let b : c.size_of-naxis2.result ≡ size_for h "NAXIS2" = cc (at_naxis2 c.args.self.now) in
-    let p : c.size_of-pcount.result ≡ size_for h "PCOUNT" = cc (at_pcount c.args.self.now) in
-    let t : c.size_of-tfields.result ≡ size_for h "TFIELDS" = cc (at_tfields c.args.self.now) in
-    let f : c.record-found.result ≡ record_for h "THEAP" = cc (at_theap c.args.self.now) in
-    rw (c.in_ok-read.ensures.columns.0, c.heap_start-theap.ensures, c.value_of.ensures, t, a, b, p, f)
+    let s : c.heap_start-theap.result ≡ theap_in (main_of h) (value_at h (record_for h "THEAP")) (record_for h "THEAP") = cc in
+    rw (c.in_ok-read.ensures.columns.0, s, c.size-tfields.ensures, c.size-naxis1.ensures, c.size-naxis2.ensures, c.size-pcount.ensures)
