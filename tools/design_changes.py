@@ -44,7 +44,7 @@ RULES = [
     ("C.Cell -> Some C.Cell, and so on", r"\b(C\.(?:ChooseAll|Choose|Cell))\b", r"(Some \1)"),
     ("C.Bad -> None", r"\bC\.Bad\b", "None"),
     ("Opened -> Result TableData Refusal", r"\bOpened\b", "Result TableData Refusal"),
-    ("Result, of the walk -> StepResult", r"(?<![\w.])Result\b(?! (?:Unit|BinTable|TableData|ℕ|A|\())", "StepResult"),
+    ("the walk's Result -> StepResult", r"(?<![\w.])Result\b(?! (?:Unit|BinTable|TableData|ℕ|A|\())", "StepResult"),
 ]
 
 # Pages that say what was, so that a name in them is no promise; and programs whose functions promise nothing of what
@@ -185,8 +185,8 @@ class Crate:
             if around and around[0].startswith("impl"):
                 kind, of_trait = own_type(around[0])
                 public = (m[1] == "pub " or of_trait) and kind in exported
-                owner = f"{self.crate}: {around[0]}: " if of_trait else exported.get(kind, f"{self.crate}::{kind}") + "::"
-                path = owner + m[2]
+                owner = exported.get(kind, f"{self.crate}::{kind}")
+                path = f"{self.crate}: {around[0]}: {m[2]}" if of_trait else f"{owner}::{m[2]}"
             elif around:
                 public = around[0].startswith("pub ")
                 path = f"{self.crate}: {around[0].replace('pub ', '')}: {m[2]}"
@@ -254,7 +254,8 @@ def declarations(text):
         if name and (starts or module or (indent(line) <= depth and ENDS.match(line.strip()))):
             lines = logical(kept)
             if taken:
-                lines[0] = DECLARED.match(lines[0])[0] + " " + taken + " →" + lines[0][DECLARED.match(lines[0]).end() :]
+                declared = DECLARED.match(lines[0])
+                lines[0] = f"{declared[0]} {taken} →{lines[0][declared.end() :]}"
             yield name, lines
             name = None
         around = [(d, t) for d, t in around if d < indent(line)]
@@ -470,8 +471,8 @@ class Report:
         return news
 
     def functions(self):
-        news = self.public("function", "Public signatures and clauses", "Each function that another crate can call, if "
-                           "a word of it changed. Clauses that stayed are left out.", lambda c: c.functions)
+        about = "Each function that another crate can call, if a word of it changed; clauses that stayed are left out."
+        news = self.public("function", "Public signatures and clauses", about, lambda c: c.functions)
         for b in news:
             for line in b.lines[1:]:
                 if line.startswith("requires"):
@@ -497,8 +498,8 @@ class Report:
         pairs, _, fresh = paired(self.old_specs.definitions, self.new_specs.definitions)
         changed = [(a, b) for a, b in pairs if a.lines != b.lines]
         count = len(self.old_specs.definitions)
-        self.title("Definitions", f"Those of specs/. {len(pairs) - len(changed)} of {count} stayed word for word. Those "
-                   "that went are in the last section.")
+        self.title("Definitions", f"Those of specs/. {len(pairs) - len(changed)} of {count} stayed word for word. The "
+                   "last section has those that went.")
         for a, b in self.spelled(changed, lambda x: x.crate):
             self.entry(b.name, beside(a.lines, b.lines), f" ({b.crate}/specs/{b.file})")
         for b in fresh:
@@ -532,9 +533,9 @@ class Report:
         """Definitions of proofs/ that such a statement uses, and that differ by more than rules."""
         words = {w for a, b in pairs for w in WORD.findall(a.lines[0] + " " + b.lines[0])}
         for a, b in every:
-            if a.name in words and DEFINES.match(a.lines[0]) and (a, b) not in pairs and a.lines != b.lines:
-                if not respelled(a.lines, b.lines):
-                    self.entry(b.name, beside(a.lines, b.lines), f" ({b.crate}/proofs/{b.file}), used by such a statement")
+            used = a.name in words and DEFINES.match(a.lines[0]) and (a, b) not in pairs
+            if used and a.lines != b.lines and not respelled(a.lines, b.lines):
+                self.entry(b.name, beside(a.lines, b.lines), f" ({b.crate}/proofs/{b.file}), of such a statement")
 
     def private(self):
         self.title("Private functions, definitions and lemmas that went", "Beside each what states its promise now. A "
@@ -553,7 +554,7 @@ class Report:
             if said is None:
                 self.look.append(f"no line in design_went.txt: {kind} {name}")
             self.out.append(f"| {kind} `{name}` | {said or '?'} |")
-        self.listing("Of the programs over cases, whose functions promised nothing of what they print",
+        self.listing("Of the programs over cases, whose functions said how far they read and nothing of what they print",
                      sorted(f.name for f in gone if f.crate in PROGRAMS))
         self.listing("Functions that are in another file or became methods, under their names",
                      sorted(f.name for f in moved))
