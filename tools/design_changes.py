@@ -554,8 +554,8 @@ class Report:
             if said is None:
                 self.look.append(f"no line in design_went.txt: {kind} {name}")
             self.out.append(f"| {kind} `{name}` | {said or '?'} |")
-        self.listing("Of the programs over cases, whose functions said how far they read and nothing of what they print",
-                     sorted(f.name for f in gone if f.crate in PROGRAMS))
+        about = "Of the programs over cases, whose functions said how far they read and nothing of what they print"
+        self.listing(about, sorted(f.name for f in gone if f.crate in PROGRAMS))
         self.listing("Functions that are in another file or became methods, under their names",
                      sorted(f.name for f in moved))
         _, went, _ = paired(self.old_specs.lemmas, self.new_specs.lemmas)
