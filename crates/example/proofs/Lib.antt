@@ -1,1 +1,2 @@
 pub mod EitherCase
+pub mod Opened

@@ -18,9 +18,7 @@ pub fn first_weight(header: &[u8], area: &[u8]) -> Result<Option<Cell>, Refusal>
     ensures { cell_reply result ≡ first_weight header.now area.now }
 {
     let layout = bintable::parse(header, area)?;
-    let Some(column) = layout::find_field_by_ttype(header, layout, b"WEIGHT") else {
-        return Err(Refusal::NoColumn);
-    };
+    let column = layout::find_field_by_ttype(header, layout, b"WEIGHT").ok_or(Refusal::NoColumn)?;
     let mut cursor = table::select_fields(layout, area, &[column], true)?;
     row::next(&mut cursor, layout, area)
 }
