@@ -2,16 +2,15 @@
 -- Assumes nothing.
 use Rattle.std.specs.Prelude.{Option, Some, None, leb, unwrap_or}
 use Prim.Native.Nat.{ℕ, ◌+◌, ◌-◌, ◌≤◌, ◌<◌}
-use mathlib.Core.Path.{◌≡◌, refl, sym, ap, subst, ◌∙◌}
-use mathlib.Core.List.{List, [], ◌∷◌, ◌++◌, append_assoc}
-use native.Mathlib.Nat.{add-zero}
+use mathlib.Core.Path.{◌≡◌, refl, ap, subst, ◌∙◌}
+use mathlib.Core.List.{List, ◌++◌}
 use native.Mathlib.Omega.{arith}
-use lib.ListN.{length, take, length-append, length-replicate, take-append-drop}
+use lib.ListN.{length, take, length-append, length-replicate}
 use borrow.Author.Tests.{le-leb, lt-leb}
 use Rattle.ascii.specs.Buffer.{put_in, written, written_to, place_after}
-use Rattle.ascii.specs.Number.{decimal_text, right_aligned}
+use Rattle.ascii.specs.Number.{right_aligned}
 use Rattle.ascii.proofs.Cases.{either}
-use Rattle.ascii.proofs.Lengths.{decimal_length, put_put, take_put}
+use Rattle.ascii.proofs.Lengths.{put_put, take_put}
 
 -- what a writer ensures where there is room: the place after the text, and the buffer with it
 abbrev pub Put : List ℕ → ℕ → List ℕ → ℕ → List ℕ → Type 0
@@ -34,10 +33,6 @@ joined o at s t {p} {o'} {q} {o''} h (e, f) (g, i) = (
 )
 
 module _ (o : List ℕ) (at : ℕ) {s t : List ℕ} (e : s ≡ t) where
-  -- the same text, told otherwise
-  pub retold : {p : ℕ} {o' : List ℕ} → Put o at s p o' → Put o at t p o'
-  retold {p} {o'} h = subst (λ (l : List ℕ). Put o at l p o') e h
-
   pub tried_as : {p : ℕ} {o' : List ℕ} → Tried o at s p o' → Tried o at t p o'
   tried_as {p} {o'} h = subst (λ (l : List ℕ). Tried o at l p o') e h
 
@@ -71,30 +66,10 @@ pub place_of : (o : List ℕ) (at : ℕ) (t : List ℕ) → unwrap_or (written_t
 unfolding place_after written_to
 place_of o at t = either (leb (at + length t) (length o)) (λ e. rw e) (λ e. rw e)
 
--- a number has 20 digits at most
-pub number_fitted : (o : List ℕ) (at n : ℕ) {p : ℕ} {o' : List ℕ} → at + 20 ≤ length o → Tried o at (decimal_text n) p o' → Put o at (decimal_text n) p o'
-number_fitted o at n h e = fitted o at (decimal_text n) (omega (arith, decimal_length n)) e
-
 -- from the front of an array on, what was written is the text
 pub front : (o t : List ℕ) {p : ℕ} {o' : List ℕ} → p ≤ length o → Put o 0 t p o' → take p o' ≡ t
 front o t {p} {o'} h (e, f) = ap (λ (n : ℕ). take n o') e ∙ ap (take (0 + length t)) f ∙ take_put o 0 t (omega (arith, e, h))
 
--- a word and what comes after its space, joined
-pub spaced : (w t : List ℕ) (b : ℕ) → (w ++ (b ∷ [])) ++ t ≡ w ++ (b ∷ t)
-spaced w t b = append_assoc w (b ∷ []) t
-
-module _ (n b : ℕ) where
-  pub number_room : length (decimal_text n ++ (b ∷ [])) ≤ 21
-  number_room = simp length-append (omega (arith, decimal_length n))
-
-  pub count_room : (w : List ℕ) → length (w ++ (32 ∷ (decimal_text n ++ (b ∷ [])))) ≤ length w + 22
-  count_room w = simp length-append (omega (arith, decimal_length n))
-
 -- a text with the spaces in front of it
 pub right_length : (width : ℕ) (t : List ℕ) → length (right_aligned width t) ≡ (width - length t) + length t
 right_length width t = simp (length-append, length-replicate {A = ℕ} (width - length t) 32)
-
--- no text leaves the place and the buffer as they were
-pub nothing_put : (o : List ℕ) (at : ℕ) → Put o at [] at o
-unfolding put_in
-nothing_put o at = (omega arith, rw add-zero (sym (take-append-drop at o)))

@@ -73,9 +73,6 @@ pub put_byte : (o : List ℕ) (at x : ℕ) → at < length o → set o at x ≡ 
 unfolding put_in
 put_byte o at x h = set_split o at x h ∙ ap (λ (k : ℕ). take at o ++ (x ∷ drop k o)) (sym (add-one at))
 
-pub put_cons : (o : List ℕ) (at x : ℕ) (t : List ℕ) → at + 1 + length t ≤ length o → put_in (set o at x) (at + 1) t ≡ put_in o at (x ∷ t)
-put_cons o at x t h = ap (λ (l : List ℕ). put_in l (at + 1) t) (put_byte o at x (omega arith)) ∙ put_put o at (x ∷ []) t h
-
 -- a text in the place of as many bytes of the buffer
 pub put_between : (o : List ℕ) (at n : ℕ) (t s : List ℕ) → n ≡ length t → s ≡ t → put_mid at (at + n - at) o s ≡ put_in o at t
 unfolding put_in

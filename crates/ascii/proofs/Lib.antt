@@ -1,5 +1,4 @@
 pub mod Cases
-pub mod Scan
 pub mod Front
 pub mod Spaces
 pub mod Library
@@ -7,7 +6,6 @@ pub mod Decimal
 pub mod Parts
 pub mod Same
 pub mod Reading
-pub mod Turns
 pub mod Lengths
 pub mod Chain
 pub mod Printed

@@ -50,9 +50,6 @@ module _ (l : BinTable) (a : List ℕ) (choice : ℕ) (heap : Bool) (r : ℕ) wh
     pub sums : columns_ok l.naxis1 0 (columns_of l) ≡ columns_ok l.naxis1 at (drop c (columns_of l))
     pub sizes : n + length (entries c) ≡ length (entries 0)
 
-  pub summed_none : Summed 0 0 0
-  summed_none = record { bytes = omega arith; some = omega arith; sums = refl; sizes = omega arith }
-
   -- column c comes next, with k entries
   pub summed_next : length (columns_of l) ≡ l.tfields → (c at n k : ℕ) → c < l.tfields → Summed c at n → k ≤ 17594467745808
       → count_ok (column_of l c).form (column_of l c).count ≡ true → (column_of l c).start ≡ at → k ≡ size c
@@ -94,15 +91,6 @@ module _ (l : BinTable) (a : List ℕ) (choice : ℕ) (heap : Bool) (r p : ℕ) 
     pub summed : Summed l a choice heap r c s.at s.size
     pub found : (k : ℕ) → s.found ≡ Some k → FoundIn c k s
     pub missing : s.found ≡ None → FurtherOn c s
-
-  pub scanned_none : (s : Scan) → s ≡ record { at = 0; size = 0; left = p; found = None } → Scanned 0 s
-  scanned_none s e =
-      rw e
-      record {
-        summed = summed_none l a choice heap r;
-        found = λ k q. cc;
-        missing = λ q. (omega arith, refl);
-      }
 
   -- column c comes next, with k entries
   module _ (full : length (columns_of l) ≡ l.tfields) (c k : ℕ) (s : Scan) (h : c < l.tfields) (w : Scanned c s)

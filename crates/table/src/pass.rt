@@ -65,7 +65,7 @@ pub fn ready(sizes: Sizes, len: u64, cursor: TableData) -> bool
 
 // The first column from c on that is chosen; 64 if there is none, or c where that is further on.
 #[tactic(auto, using(crate::proofs::ToNext::next_by_zeros), unfolding(crate::specs::Scan::next_from))]
-fn next_chosen(choice: u64, c: usize) -> usize
+pub fn next_chosen(choice: u64, c: usize) -> usize
     ensures { result ≡ next_chosen choice c }
 {
     if c < TFIELDS_LIMIT {

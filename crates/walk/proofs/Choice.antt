@@ -6,10 +6,9 @@ use mathlib.Core.Logic.{◌≢◌}
 use mathlib.Core.List.{List}
 use mathlib.Core.Bool.{Bool, true, false, cond, ◌&&◌, and-true, false≢true}
 use native.Mathlib.Nat.{add-zero, zero-add, add-suc, suc-add, pow-succ', pow-zero, div-one, div-div-eq-div-mul, div-eq_of_lt, div-lt_iff_lt-mul, one-mul, lt_of_lt_of_le, not-le_of_lt}
-use native.Mathlib.Numerals.{add-one}
 use native.Mathlib.Omega.{arith}
 use lib.Dec.{eqb, ltb}
-use lib.ListN.{length, get_or, drop, drop_of_length-le}
+use lib.ListN.{length, get_or, drop}
 use lib.Seq.{drop-cons}
 use lib.Pow.{pow_pos, pow_mono}
 use borrow.Author.Tests.{ltb-true, lt-ltb, ltb-false, le-ltb, eqb-false, eq-eqb, ne_eqb}
@@ -120,10 +119,6 @@ pub choice_end : (sel : Selection) (n : ℕ) → choice_from sel n (n - n) ≡ 0
 unfolding choice_from
 choice_end sel n = let e : n - n ≡ 0 = omega arith in rw e
 
--- the choice of 63 columns at most leaves a bit of 64
-pub choice_room : (sel : Selection) (n c : ℕ) → 0 < c → c ≤ n → n ≤ 64 → choice_from sel c (n - c) < 9223372036854775808
-choice_room sel n c h k l = lt_of_lt_of_le (choice_below sel c (n - c)) (pow_mono {i = n - c} {j = 63} (omega arith))
-
 -- a selection's choice belongs if it has a column at all
 pub choice_any : (l : BinTable) (sel : Selection) → choice_ok l (choice_of l sel) ≡ ltb 0 (choice_of l sel)
 unfolding choice_ok
@@ -143,11 +138,3 @@ module _ (c : ℕ) (is : List ℕ) (i : ℕ) (h : i < length is) where
   pub among_here : get_or is i 0 ≡ c → among c (drop i is) ≡ true
   unfolding among
   among_here e = rw (drop-cons is i 0 h, e, eq-eqb c c refl)
-
-  pub among_next : get_or is i 0 ≢ c → among c (drop i is) ≡ among c (drop (i + 1) is)
-  unfolding among
-  among_next n = rw (add-one i, drop-cons is i 0 h, ne_eqb c (get_or is i 0) (λ e. n (sym e)))
-
-pub among_end : (c : ℕ) (is : List ℕ) (i : ℕ) → length is ≤ i → among c (drop i is) ≡ false
-unfolding among
-among_end c is i h = rw (drop_of_length-le is {i = i} h)

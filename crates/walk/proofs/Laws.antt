@@ -2,15 +2,14 @@
 -- Assumes nothing.
 use Prim.Native.Nat.{ℕ, zero, suc, ◌+◌, ◌-◌, ◌≤◌, ◌<◌}
 use mathlib.Core.Path.{◌≡◌, refl, sym, ap, ◌∙◌}
-use mathlib.Core.Logic.{◌≢◌}
 use mathlib.Core.Bool.{Bool, true, false, cond}
 use mathlib.Core.List.{List, [], ◌++◌}
 use native.Mathlib.Nat.{add-zero, add-suc, suc-add, zero-add, not-suc-le-zero, le_of_suc-le-suc}
 use native.Mathlib.Omega.{arith}
 use lib.ListN.{length, get_or, length-append, get_or-append}
 use lib.Seq.{get_or-append-add}
-use lib.Dec.{eqb, ltb}
-use borrow.Author.Tests.{ltb-true, lt-ltb, le-ltb, eq-eqb, ne_eqb, ltb-false}
+use lib.Dec.{ltb}
+use borrow.Author.Tests.{ltb-true, lt-ltb, le-ltb, ltb-false}
 use Rattle.ascii.proofs.Cases.{by_test, either}
 use Rattle.layout.specs.declared.Column.{Column}
 use Rattle.layout.specs.declared.BinTable.{BinTable}
@@ -21,7 +20,7 @@ use Rattle.cell.specs.Field.{size_of}
 use Rattle.walk.specs.declared.Entry.{Entry}
 use Rattle.walk.specs.declared.Entry.TheVariants as E
 use Rattle.walk.specs.Plain.{column_of, field_of, cell_of, item_at, cells, entries_of, entry_in, chosen, column_entries, column_size, columns_entries, row_entries}
-use Rattle.walk.specs.Walk.{Next, entry_at, no_entry, next, place_ok}
+use Rattle.walk.specs.Walk.{Next, entry_at, no_entry, next}
 
 -- f of a choice
 map_test {ℓ κ} : {A : Type ℓ} {B : Type κ} (f : A → B) (t : Bool) {x y : A} {u v : B} → f x ≡ u → f y ≡ v → f (cond t x y) ≡ cond t u v
@@ -159,21 +158,3 @@ module _ (rows : ℕ → List Entry) (n : ℕ) where
 
   pub is_next : (r p : ℕ) → IsNext (next rows n (n - r) r p)
   is_next r p = next_from (n - r) r p (omega arith)
-
-  -- ---- whether a place belongs, case by case
-
-  pub place_zero : (r p : ℕ) → r < n → p ≡ 0 → place_ok rows n r p ≡ true
-  unfolding place_ok
-  place_zero r p h e = rw (lt-ltb r n h, e)
-
-  pub place_inside : (r p : ℕ) → r < n → p ≢ 0 → place_ok rows n r p ≡ ltb p (length (rows r))
-  unfolding place_ok
-  place_inside r p h q = rw (lt-ltb r n h, ne_eqb p 0 q)
-
-  pub place_end : (r p : ℕ) → r ≡ n → place_ok rows n r p ≡ eqb p 0
-  unfolding place_ok
-  place_end r p e = rw (le-ltb r n (omega (arith, e)), eq-eqb r n e)
-
-  pub place_past : (r p : ℕ) → n ≤ r → r ≢ n → place_ok rows n r p ≡ false
-  unfolding place_ok
-  place_past r p h q = rw (le-ltb r n h, ne_eqb r n q)

@@ -1,7 +1,7 @@
 -- The cursor's calls, as their contracts state them, for any layout, data area and cursor (FORMAT.md, section 14). What does not belong
 -- together gets a 10. Any other cursor does what the plain walk does from the choice, heap setting, place and count that it holds.
 -- Assumes nothing.
-use Rattle.std.specs.Prelude.{ℕ, zero, suc, ◌+◌, ◌-◌, ◌*◌, ◌^◌, Bool, true, false, cond, ◌&&◌, ◌||◌, List, [], ◌∷◌, length, eqb, leb, ltb, Option, Some, None, Result, Ok, Err}
+use Rattle.std.specs.Prelude.{ℕ, zero, suc, ◌+◌, ◌-◌, ◌*◌, ◌^◌, Bool, true, false, cond, ◌&&◌, List, [], ◌∷◌, length, leb, ltb, Option, Some, None, Result, Ok, Err}
 use Rattle.refusal.specs.Refusal as H
 use Rattle.tform.specs.Width.{among}
 use Rattle.layout.specs.declared.BinTable.{BinTable}

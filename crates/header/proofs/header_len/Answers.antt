@@ -2,12 +2,9 @@
 use Rattle.std.proofs.Common.{sym, ◌∙◌, ap, arith}
 use Rattle.card.specs.Record.{is_end}
 use Rattle.header.specs.Records.{records}
-use Rattle.header.proofs.Ends.{record_count, record_at, open_none, open_next, len_at, len_over}
+use Rattle.header.proofs.Ends.{record_count, record_at, open_next, len_at, len_over}
 use Rattle.header.proofs.Pass.{over}
 use Rattle.header.proofs.header_len.Goals as goal
-
-pub loop-k-init : goal.loop-k-init
-loop-k-init c = open_none _
 
 pub returns-then-is_end : goal.returns-then-is_end
 returns-then-is_end c =

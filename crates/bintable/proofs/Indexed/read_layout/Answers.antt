@@ -17,11 +17,6 @@ read_columns-requires c =
     let h = c.args.self.now.header.now in
     ((header_short h c.requires.0, rw c.size-tfields.ensures (nine_tfields h c.requires.1)))
 
-pub returns-in_err-read-clause-check : goal.returns-in_err-read-clause-check
-returns-in_err-read-clause-check c =
-    let e = c.in_err-read.ensures.check ∙ ap (column_checks c.args.self.now.header.now) c.size-tfields.ensures in
-    search (rules, e)
-
 -- the columns pass, and check 9 is that of the layout
 row_after : (h : List ℕ) (bytes naxis1 tfields : ℕ) (o : Outcome) → accepted ≡ column_checks h tfields
     → bytes ≡ row_bytes (columns_from h 0 1 tfields) → tfields ≡ size_for h "TFIELDS" → naxis1 ≡ size_for h "NAXIS1"

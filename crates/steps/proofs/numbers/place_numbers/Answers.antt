@@ -9,10 +9,6 @@ use Rattle.steps.proofs.Lines.{left_next, parts_left}
 use Rattle.steps.proofs.Listing.{placed, not_placed}
 use Rattle.steps.proofs.numbers.place_numbers.Goals as goal
 
-pub loop-part-init : goal.loop-part-init
-unfolding numbers
-loop-part-init c = search rules
-
 pub loop-part-preserved-in-Some-parse_number : goal.loop-part-preserved-in-Some-parse_number
 loop-part-preserved-in-Some-parse_number c =
     let l = c.loop-part in
