@@ -1,5 +1,6 @@
 // The line that is printed.
 ghost use Rattle.std.specs.Prelude.{◌≡◌, ◌+◌, ◌++◌, ◌≤◌, ◌<◌, ◌^◌, length};
+ghost use Rattle.listing.specs.Writer.{room};
 ghost use Rattle.cases.specs.Report.{counts_text, differ_text, cut_text, report_text};
 
 use crate::count::Tally;
@@ -7,7 +8,7 @@ use listing::writer::Writer;
 
 #[tactic(auto, unfolding(ascii::specs::Text::bytes, crate::specs::Report::counts_text))]
 fn put_counts(line: &mut Writer, tally: Tally)
-    requires { length line.old + 48 ≤ 130 }
+    requires { length line.old + 48 ≤ room }
     ensures text { line.new ≡ line.old ++ counts_text tally }
     ensures len { length line.new ≤ length line.old + 48 }
 {
@@ -18,7 +19,7 @@ fn put_counts(line: &mut Writer, tally: Tally)
 
 #[tactic(auto, unfolding(ascii::specs::Text::bytes, crate::specs::Report::differ_text))]
 fn put_differ(line: &mut Writer, tally: Tally)
-    requires { length line.old + 40 ≤ 130 }
+    requires { length line.old + 40 ≤ room }
     ensures text { line.new ≡ line.old ++ differ_text tally }
     ensures len { length line.new ≤ length line.old + 40 }
 {
@@ -38,7 +39,7 @@ fn put_differ(line: &mut Writer, tally: Tally)
 
 #[tactic(auto, unfolding(ascii::specs::Text::bytes, crate::specs::Report::cut_text))]
 fn put_cut(line: &mut Writer, tally: Tally)
-    requires { (length line.old + 40 ≤ 130) × (tally.cases + 1 < 2 ^ 64) }
+    requires { (length line.old + 40 ≤ room) × (tally.cases + 1 < 2 ^ 64) }
     ensures text { line.new ≡ line.old ++ cut_text tally }
     ensures len { length line.new ≤ length line.old + 40 }
 {

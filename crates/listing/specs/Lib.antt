@@ -1,2 +1,3 @@
+pub mod Writer
 pub mod Text
 pub mod Lines

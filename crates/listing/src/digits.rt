@@ -1,13 +1,14 @@
 // Signed numbers and bits as digits.
 ghost use Rattle.std.specs.Prelude.{◌≡◌, ◌+◌, ◌≤◌, ◌<◌, ◌++◌, length};
 ghost use Rattle.listing.specs.Text.{signed_text, hex_text, hex_digit};
+ghost use Rattle.listing.specs.Writer.{room};
 
 use crate::writer::Writer;
 
 impl Writer {
     // A negative number is its magnitude with a minus sign before it.
-    pub fn put_signed(&mut self, n: i64)
-        requires { length self.old + 21 ≤ 130 }
+    pub(crate) fn put_signed(&mut self, n: i64)
+        requires { length self.old + 21 ≤ room }
         ensures { self.new ≡ self.old ++ signed_text n }
     {
         if n < 0 {
@@ -18,8 +19,8 @@ impl Writer {
 
     // The last digits of a number, as many as the width says, with zeros in front of a shorter one.
     #[tactic(auto, using(crate::proofs::Written::pieces, crate::proofs::Lengths::hex_more, crate::proofs::Lengths::hex_none))]
-    pub fn put_hex(&mut self, n: u64, width: u8)
-        requires { length self.old + width ≤ 130 }
+    pub(crate) fn put_hex(&mut self, n: u64, width: u8)
+        requires { length self.old + width ≤ room }
         ensures text { self.new ≡ self.old ++ hex_text width n }
         ensures len { length self.new ≡ length self.old + width }
     {

@@ -49,7 +49,7 @@ pub fn at_line(cursor: TableData) -> Writer
     line
 }
 
-#[tactic(auto, using(crate::proofs::Written::pieces), unfolding(ascii::specs::Text::bytes, crate::specs::Lines::line, crate::specs::Lines::cell_line))]
+#[tactic(auto, using(crate::proofs::Written::pieces, crate::proofs::Short::value_put), unfolding(ascii::specs::Text::bytes, crate::specs::Lines::line, crate::specs::Lines::cell_line))]
 pub fn cell_line(cell: Cell) -> Writer
     ensures { result ≡ cell_line cell }
 {

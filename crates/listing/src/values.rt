@@ -2,6 +2,7 @@
 ghost use Rattle.std.specs.Prelude.{◌≡◌, ◌+◌, ◌≤◌, ◌++◌, length};
 ghost use Rattle.ascii.specs.Number.{decimal_text};
 ghost use Rattle.listing.specs.Text.{hex_text, two_texts, logical_text, value_text};
+ghost use Rattle.listing.specs.Writer.{room};
 
 use crate::writer::Writer;
 use cell::{DataValue, Logical};
@@ -9,7 +10,7 @@ use cell::{DataValue, Logical};
 impl Writer {
     #[tactic(auto, using(crate::proofs::Written::pieces), unfolding(ascii::specs::Text::bytes))]
     fn put_logical(&mut self, logical: Logical)
-        requires { length self.old + 21 ≤ 130 }
+        requires { length self.old + 21 ≤ room }
         ensures { self.new ≡ self.old ++ logical_text logical }
     {
         match logical {
@@ -24,7 +25,7 @@ impl Writer {
     }
 
     fn put_two_decimals(&mut self, one: u64, two: u64)
-        requires { length self.old + 41 ≤ 130 }
+        requires { length self.old + 41 ≤ room }
         ensures { self.new ≡ self.old ++ two_texts (decimal_text one) (decimal_text two) }
     {
         self.put_number(one);
@@ -33,7 +34,7 @@ impl Writer {
     }
 
     fn put_two_hex(&mut self, one: u64, two: u64, width: u8)
-        requires { (width ≤ 16) × (length self.old + 33 ≤ 130) }
+        requires { (width ≤ 16) × (length self.old + 33 ≤ room) }
         ensures { self.new ≡ self.old ++ two_texts (hex_text width one) (hex_text width two) }
     {
         self.put_hex(one, width);
@@ -41,8 +42,8 @@ impl Writer {
         self.put_hex(two, width);
     }
 
-    pub fn put_value(&mut self, value: DataValue)
-        requires { length self.old + 41 ≤ 130 }
+    pub(crate) fn put_value(&mut self, value: DataValue)
+        requires { length self.old + 41 ≤ room }
         ensures { self.new ≡ self.old ++ value_text value }
     {
         match value {

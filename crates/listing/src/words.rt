@@ -1,12 +1,13 @@
 // Words and numbers, each with the byte that ends it.
 ghost use Rattle.std.specs.Prelude.{◌≡◌, [], ◌∷◌, ◌++◌, ◌+◌, ◌≤◌, ◌<◌, length};
 ghost use Rattle.ascii.specs.Number.{decimal_text};
+ghost use Rattle.listing.specs.Writer.{room};
 
 use crate::writer::Writer;
 
 impl Writer {
-    pub fn word(&mut self, word: &[u8], end: u8)
-        requires { length self.old + length word.now < 130 }
+    pub(crate) fn word(&mut self, word: &[u8], end: u8)
+        requires { length self.old + length word.now < room }
         ensures text { self.new ≡ self.old ++ (word.now ++ (end ∷ [])) }
         ensures len { length self.new ≡ length self.old + length word.now + 1 }
     {
@@ -14,8 +15,8 @@ impl Writer {
         self.put(&[end]);
     }
 
-    pub fn number(&mut self, number: u64, end: u8)
-        requires { length self.old + 21 ≤ 130 }
+    pub(crate) fn number(&mut self, number: u64, end: u8)
+        requires { length self.old + 21 ≤ room }
         ensures text { self.new ≡ self.old ++ (decimal_text number ++ (end ∷ [])) }
         ensures len { length self.new ≤ length self.old + 21 }
     {

@@ -3,6 +3,7 @@
 ghost use Rattle.std.specs.Prelude.{◌≡◌, ℕ, ◌+◌, ◌≤◌, List, [], ◌∷◌, ◌++◌, length, take};
 ghost use Rattle.ascii.specs.Number.{decimal_text};
 ghost use Rattle.ascii.specs.Buffer.{written, written_to};
+ghost use Rattle.listing.specs.Writer.{room, appended};
 
 use std::marker::Model;
 
@@ -21,7 +22,7 @@ impl Model for Writer {
 
     ghost view = { λ w. take w.len w.bytes };
 
-    ghost invariant = { λ w. w.len ≤ 130 };
+    ghost invariant = { λ w. w.len ≤ room };
 }
 
 impl Writer {
@@ -41,18 +42,21 @@ impl Writer {
         &self.bytes[..self.len]
     }
 
+    // Puts a text at the end. A text that there is no room for is left out.
+    #[tactic(auto, using(crate::proofs::Written::put_steps))]
     pub fn put(&mut self, text: &[u8])
-        requires { length self.old + length text.now ≤ 130 }
-        ensures text { self.new ≡ self.old ++ text.now }
-        ensures len { length self.new ≡ length self.old + length text.now }
+        ensures whole { self.new ≡ appended self.old text.now }
+        ensures text { length self.old + length text.now ≤ room → self.new ≡ self.old ++ text.now }
+        ensures len { length self.new ≤ length self.old + length text.now }
     {
         self.len = ascii::buffer::put(&mut self.bytes, self.len, text);
     }
 
-    // A number in decimal, which has 20 digits at most.
+    // The same with a number in decimal, which has 20 digits at most.
+    #[tactic(auto, using(crate::proofs::Written::put_steps))]
     pub fn put_number(&mut self, number: u64)
-        requires { length self.old + 20 ≤ 130 }
-        ensures text { self.new ≡ self.old ++ decimal_text number }
+        ensures whole { self.new ≡ appended self.old (decimal_text number) }
+        ensures text { length self.old + 20 ≤ room → self.new ≡ self.old ++ decimal_text number }
         ensures len { length self.new ≤ length self.old + 20 }
     {
         self.len = ascii::digits::put_decimal(&mut self.bytes, self.len, number);
