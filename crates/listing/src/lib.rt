@@ -36,6 +36,7 @@ pub enum Line {
 
 // Writes a line and its line feed from a place of the buffer on. The rest of the buffer stays as it was, and where
 // there is no room for all of it, all of the buffer does.
+#[tactic(auto, unfolding(ascii::specs::Text::bytes, crate::specs::Lines::line, crate::specs::Lines::end_line, crate::specs::Lines::row_line, crate::specs::Lines::seek_line, crate::specs::Lines::at_end_line, crate::specs::Lines::bad_line))]
 pub fn put_line(
     out: &mut [u8],
     at: usize,

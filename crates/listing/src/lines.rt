@@ -6,7 +6,7 @@ ghost use Rattle.refusal.specs.Refusal.{number_of, place_of};
 ghost use Rattle.walk.specs.Plain.{column_of};
 ghost use Rattle.ascii.specs.Buffer.{written, written_to};
 ghost use Rattle.ascii.specs.Number.{decimal_text};
-ghost use Rattle.listing.specs.Lines.{line, table_line, column_line, cell_line, refused_line, at_line};
+ghost use Rattle.listing.specs.Lines.{line, table_line, shown_name, column_line, cell_line, refused_line, at_line};
 
 use crate::writer::Writer;
 use cell::Cell;
@@ -100,26 +100,18 @@ fn column_of(layout: BinTable, c: usize) -> Column
     layout.columns.get(c).copied().unwrap_or(NO_COLUMN)
 }
 
-// The line of a column, with its name as it is shown.
-#[tactic(auto, using(crate::proofs::Written::pieces), unfolding(ascii::specs::Text::bytes, crate::specs::Lines::line))]
-fn named_line(out: &mut [u8], at: usize, c: usize, column: Column, name: &[u8]) -> Option<usize>
-    ensures to { result ≡ written_to out.old at
-        (line (bytes "column" ∷ decimal_text c ∷ (form_letter column.form ∷ []) ∷ decimal_text column.count
-        ∷ bytes "at" ∷ decimal_text column.start ∷ name.now ∷ [])) }
-    ensures buffer { out.new ≡ written out.old at
-        (line (bytes "column" ∷ decimal_text c ∷ (form_letter column.form ∷ []) ∷ decimal_text column.count
-        ∷ bytes "at" ∷ decimal_text column.start ∷ name.now ∷ [])) }
+// A name as it is shown: a dash for an empty one.
+#[tactic(auto, unfolding(ascii::specs::Text::bytes))]
+fn shown_name(name: &[u8]) -> &[u8]
+    ensures { result.now ≡ shown_name name.now }
 {
-    let mut line = Writer::new();
-    line.word(b"column", b' ');
-    line.number(c as u64, b' ');
-    line.word(&[tform::form_letter(column.form)], b' ');
-    line.number(column.count as u64, b' ');
-    line.word(b"at", b' ');
-    line.number(column.start, b' ');
-    put_named(out, at, line.text(), name)
+    if name.is_empty() {
+        return b"-";
+    }
+    name
 }
 
+#[tactic(auto, using(crate::proofs::Written::pieces), unfolding(ascii::specs::Text::bytes, crate::specs::Lines::line, crate::specs::Lines::column_line))]
 pub fn column_line(
     out: &mut [u8],
     at: usize,
@@ -131,9 +123,13 @@ pub fn column_line(
     ensures buffer { out.new ≡ written out.old at (column_line header.now layout c) }
 {
     let column = column_of(layout, c);
-    let name = layout::column_name(header, layout, c);
-    if name.len() == 0 {
-        return named_line(out, at, c, column, b"-");
-    }
-    named_line(out, at, c, column, name)
+    let mut line = Writer::new();
+    line.word(b"column", b' ');
+    line.number(c as u64, b' ');
+    line.word(&[tform::form_letter(column.form)], b' ');
+    line.number(column.count as u64, b' ');
+    line.word(b"at", b' ');
+    line.number(column.start, b' ');
+    let name = shown_name(layout::column_name(header, layout, c));
+    put_named(out, at, line.text(), name)
 }
