@@ -80,6 +80,7 @@ pub fn table_line(layout: BinTable) -> Writer
 
 // The start of a line, a name and the line feed. The name is a part of the header, of any length, so it does not go
 // through a writer.
+#[tactic(auto, unfolding(ascii::specs::Buffer::written, ascii::specs::Buffer::written_to))]
 fn put_named(out: &mut [u8], at: usize, start: &[u8], name: &[u8]) -> Option<usize>
     ensures to { result ≡ written_to out.old at (start.now ++ (name.now ++ (10 ∷ []))) }
     ensures buffer { out.new ≡ written out.old at (start.now ++ (name.now ++ (10 ∷ []))) }

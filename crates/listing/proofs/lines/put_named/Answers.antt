@@ -1,28 +1,7 @@
--- `put_named` meets its contract: the three tests together say whether there is room.
-use Rattle.std.proofs.Common.{[], ◌∷◌, ◌++◌, length-append, arith, rules, ◌≡◌, ◌∙◌}
-use Rattle.std.specs.Prelude.{None}
-use Rattle.ascii.proofs.Chain.{fitted, joined, no_room, room}
+-- `put_named` meets its contract: the three texts, each after the one before, are one text.
+use Rattle.std.proofs.Common.{[], ◌∷◌, ◌++◌, length-append, arith}
+use Rattle.ascii.proofs.Chain.{fitted, joined, room}
 use Rattle.listing.proofs.lines.put_named.Goals as goal
-
-pub returns-in_err-checked_sub : goal.returns-in_err-checked_sub
-returns-in_err-checked_sub c =
-    let a = c.args in
-    let s = no_room a.out.now a.at (a.start.now ++ (a.name.now ++ (10 ∷ []))) (simp length-append (omega arith)) in
-    let none : c.from_residual.result ≡ None = search rules in
-    record { to = none ∙ s.0; buffer = s.1 }
-
-pub returns-in_err-rest : goal.returns-in_err-rest
-returns-in_err-rest c =
-    let a = c.args in
-    let s = no_room a.out.now a.at (a.start.now ++ (a.name.now ++ (10 ∷ []))) (simp length-append (omega arith)) in
-    let none : c.from_residual-in_err-rest.result ≡ None = search rules in
-    record { to = none ∙ s.0; buffer = s.1 }
-
-pub returns-then-rest-name : goal.returns-then-rest-name
-returns-then-rest-name c =
-    let a = c.args in
-    let s = no_room a.out.now a.at (a.start.now ++ (a.name.now ++ (10 ∷ []))) (simp length-append (omega arith)) in
-    record { to = s.0; buffer = s.1 }
 
 pub returns : goal.returns
 returns c =
