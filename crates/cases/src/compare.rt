@@ -46,6 +46,7 @@ fn same_pages(file: &[u8], layout: BinTable, steps: &[u8], state: State, text: &
         let Some(page) = compare_page(file, layout, steps, current, &text[at..]) else {
             return false;
         };
+        // A page is empty where no line is left: its length says so in `output` too.
         if page.len == 0 {
             return at == text.len();
         }

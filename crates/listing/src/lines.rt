@@ -1,11 +1,12 @@
 // Each line, put together and then copied to the lent buffer, where it has room for all of it.
-ghost use Rattle.std.specs.Prelude.{◌≡◌, [], ◌∷◌, ◌++◌, ◌≤◌, length};
+ghost use Rattle.std.specs.Prelude.{◌≡◌, [], ◌∷◌, ◌++◌, ◌+◌, ◌≤◌, length};
 ghost use Rattle.ascii.specs.Text.{bytes};
 ghost use Rattle.tform.specs.Width.{form_letter};
 ghost use Rattle.refusal.specs.Refusal.{number_of, place_of};
 ghost use Rattle.walk.specs.Plain.{column_of};
 ghost use Rattle.ascii.specs.Buffer.{written, written_to};
 ghost use Rattle.ascii.specs.Number.{decimal_text};
+ghost use Rattle.listing.specs.Writer.{room};
 ghost use Rattle.listing.specs.Lines.{line, table_line, shown_name, column_line, cell_line, refused_line, at_line};
 
 use crate::writer::Writer;
@@ -14,10 +15,10 @@ use layout::{BinTable, Column, NO_COLUMN};
 use refusal::Refusal;
 use walk::TableData;
 
-// A line of a word and a number.
+// A line of a word and a number, which has 20 digits at most.
 #[tactic(auto, using(crate::proofs::Written::pieces), unfolding(ascii::specs::Text::bytes, crate::specs::Lines::line))]
 pub fn number_line(word: &[u8], number: u64) -> Writer
-    requires { length word.now ≤ 100 }
+    requires { length word.now + 22 ≤ room }
     ensures { result ≡ line (word.now ∷ decimal_text number ∷ []) }
 {
     let mut line = Writer::new();

@@ -24,6 +24,8 @@ impl Writer {
         }
     }
 
+    // Two numbers with a space between. This and the next are no plainer as one with a closure: its clauses would have
+    // to say what the closure puts for a number, and what room it needs.
     fn put_two_decimals(&mut self, one: u64, two: u64)
         requires { length self.old + 41 ≤ room }
         ensures { self.new ≡ self.old ++ two_texts (decimal_text one) (decimal_text two) }

@@ -1,4 +1,5 @@
-// Words and numbers, each with the byte that ends it.
+// Words and numbers, each with the byte that ends it. One function for both would need a trait that says what a word
+// and a number are as text, which is no plainer.
 ghost use Rattle.std.specs.Prelude.{◌≡◌, [], ◌∷◌, ◌++◌, ◌+◌, ◌≤◌, ◌<◌, length};
 ghost use Rattle.ascii.specs.Number.{decimal_text};
 ghost use Rattle.listing.specs.Writer.{room};

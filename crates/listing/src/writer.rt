@@ -42,7 +42,7 @@ impl Writer {
         &self.bytes[..self.len]
     }
 
-    // Puts a text at the end. A text that there is no room for is left out.
+    // Puts a text at the end, or leaves it out where there is no room for all of it.
     #[tactic(auto, using(crate::proofs::Written::put_steps))]
     pub fn put(&mut self, text: &[u8])
         ensures whole { self.new ≡ appended self.old text.now }
@@ -52,7 +52,8 @@ impl Writer {
         self.len = ascii::buffer::put(&mut self.bytes, self.len, text);
     }
 
-    // The same with a number in decimal, which has 20 digits at most.
+    // The same with a number in decimal, which has 20 digits at most. They go straight to the array: to put them by
+    // `put`, from an array of their own, is no plainer.
     #[tactic(auto, using(crate::proofs::Written::put_steps))]
     pub fn put_number(&mut self, number: u64)
         ensures whole { self.new ≡ appended self.old (decimal_text number) }
