@@ -132,6 +132,6 @@ pub fn column_line(
     line.number(column.count as u64, b' ');
     line.word(b"at", b' ');
     line.number(column.start, b' ');
-    let name = shown_name(layout::column_name(header, layout, c));
-    put_named(out, at, line.text(), name)
+    let name = layout::column_name(header, layout, c);
+    put_named(out, at, line.text(), shown_name(name))
 }
