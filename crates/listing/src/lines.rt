@@ -1,7 +1,5 @@
 // Each line, put together and then copied to the lent buffer, where it has room for all of it.
 ghost use Rattle.std.specs.Prelude.{◌≡◌, [], ◌∷◌, ◌++◌, ◌+◌, ◌≤◌, length};
-ghost use Rattle.ascii.specs.Text.{bytes};
-ghost use Rattle.tform.specs.Width.{form_letter};
 ghost use Rattle.refusal.specs.Refusal.{number_of, place_of};
 ghost use Rattle.walk.specs.Plain.{column_of};
 ghost use Rattle.ascii.specs.Buffer.{written, written_to};

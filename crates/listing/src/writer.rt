@@ -1,6 +1,6 @@
 // A line that is put together piece by piece, in memory of a fixed size: the library has no heap. It is not written by
 // `write!`, which says what was written only where it succeeds, and a line that has room is always written.
-ghost use Rattle.std.specs.Prelude.{◌≡◌, ℕ, ◌+◌, ◌≤◌, List, [], ◌∷◌, ◌++◌, length, take};
+ghost use Rattle.std.specs.Prelude.{◌≡◌, ℕ, ◌+◌, ◌≤◌, List, [], ◌++◌, length, take};
 ghost use Rattle.ascii.specs.Number.{decimal_text};
 ghost use Rattle.ascii.specs.Buffer.{written, written_to};
 ghost use Rattle.listing.specs.Writer.{room, appended};
