@@ -20,10 +20,7 @@ fn other() -> Cell {
 
 // How many cells a row read stored, none where it was refused or at the end.
 fn cells_read(answer: Result<Option<u64>, Refusal>) -> usize {
-    match answer {
-        Ok(Some(cells)) => cells as usize,
-        Ok(None) | Err(_) => 0,
-    }
+    answer.ok().flatten().map_or(0, |cells| cells as usize)
 }
 
 // Whether cell k of a list of n is written: of a short list every one; of a long one the first eight, those up to
