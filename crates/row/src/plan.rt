@@ -9,10 +9,10 @@ ghost use Rattle.walk.specs.Step.{state_of};
 ghost use Rattle.row.specs.Plan.{plan_of, field_plan, is_outside, left_of, plan_for, no_plan, next_row};
 ghost use Rattle.row.specs.Plan.{rest_plan, row_plan};
 
-use cell::Field;
+use cell::{Field, Heap};
 use layout::{BinTable, Column, TFIELDS_LIMIT};
 use refusal::Refusal;
-use table::pass::{Heap, Sizes};
+use table::pass::Sizes;
 use table::{RowSpan, TableRow};
 use tform::TFormType;
 use walk::{Stepped, TableData};
@@ -64,27 +64,15 @@ fn plan_of(row: u64, c: usize, column: Column, skip: u64, field: Field) -> Field
     }
 }
 
-// The field of a column of the row. It calls `cell::read_field` and not `Heap::field`: with one caller left the
-// former is compiled into the latter, which then stands apart, and cell reads of 41 columns take 45 % more
-// instructions.
+// The field of a column of the row. It borrows a heap of its own: a borrow of the plan's keeps the plan in memory, and
+// row reads of one column take 3.5 % more instructions.
 fn field_at(area: &[u8], plan: RowPlan, column: Column) -> Field
     requires { plan.start + column.start < 2 ^ 64 }
     ensures { result ≡ field area.now (plan.start + column.start) column plan.heap.followed plan.heap.start
         plan.heap.end }
 {
-    let Heap {
-        followed,
-        start,
-        end,
-    } = plan.heap;
-    cell::read_field(
-        area,
-        plan.start + column.start,
-        column,
-        followed,
-        start,
-        end,
-    )
+    let heap = plan.heap;
+    cell::read_field(area, plan.start + column.start, column, &heap)
 }
 
 // The plan of the field of column c, which is chosen, where `skip` entries are still to be passed. The loop that

@@ -10,7 +10,7 @@ use Rattle.layout.specs.declared.BinTable.{BinTable}
 use Rattle.layout.specs.Layout.{naxis1_limit, naxis2_limit, pcount_limit, tfields_limit, data_size, column_bytes}
 use Rattle.walk.specs.declared.TableData.{TableData}
 use Rattle.walk.specs.Plain.{column_of, chosen}
-use Rattle.table.specs.declared.pass.Heap.{Heap}
+use Rattle.cell.specs.declared.Heap.{Heap}
 use Rattle.table.specs.declared.pass.Sizes.{Sizes}
 use Rattle.table.specs.declared.scan.Scan.{Scan}
 

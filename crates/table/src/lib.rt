@@ -15,10 +15,10 @@ ghost use Rattle.walk.specs.Step.{Selection, wanted as wanted_by, all_columns, l
 ghost use Rattle.walk.specs.Step.{cursor_step, cell_result, seek_result};
 
 pub use belong::belongs;
-use cell::Cell;
+use cell::{Cell, Heap};
 pub use choice::chosen;
 use layout::BinTable;
-use pass::{Heap, Sizes};
+use pass::Sizes;
 use refusal::Refusal;
 use rows::NextPlace;
 pub use rows::{RowSpan, TableRow};
@@ -106,14 +106,14 @@ pub fn next(layout: BinTable, area: &[u8], cursor: TableData) -> Stepped<Option<
                 return step::next(layout, area, cursor);
             }
             let is_chosen = chosen(cursor.choice, c);
-            let size = rows::column_size(area, start + scan.at, column, is_chosen, heap);
+            let size = rows::column_size(area, start + scan.at, column, is_chosen, &heap);
             scan = scan::after(scan, column, c, size);
         }
         if let Some(c) = scan.found {
             if scan.at == layout.naxis1 {
                 let column = layout.columns[c];
                 let at = start + column.start;
-                let entry = rows::entry_of(area, at, column, cursor, c, scan.left, heap);
+                let entry = rows::entry_of(area, at, column, cursor, c, scan.left, &heap);
                 let place = NextPlace {
                     row: cursor.row,
                     passed: cursor.passed,

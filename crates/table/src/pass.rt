@@ -3,32 +3,13 @@
 ghost use Rattle.std.specs.Prelude.{◌≡◌, cond, ◌&&◌, ◌-◌, eqb};
 ghost use Rattle.std.specs.Iterator.{at_most};
 ghost use Rattle.tform.specs.Width.{count_ok, field_items};
-ghost use Rattle.cell.specs.Field.{field};
 ghost use Rattle.table.specs.Chosen.{NextChosen, all_chosen};
 ghost use Rattle.table.specs.Scan.{next_chosen, ready, no_descriptor, plain_column};
 
 use super::belong;
-use cell::Field;
 use layout::{Column, NAXIS1_LIMIT, NAXIS2_LIMIT, PCOUNT_LIMIT, TFIELDS_LIMIT};
 use tform::TFormType;
 use walk::TableData;
-
-// The heap of a table, on or off, from its first byte to the end of the data.
-#[derive(Clone, Copy)]
-pub struct Heap {
-    pub followed: bool,
-    pub start: u64,
-    pub end: u64,
-}
-
-impl Heap {
-    // What the field of a column at a place stands for.
-    pub fn field(self, area: &[u8], at: u64, column: Column) -> Field
-        ensures { result ≡ field area.now at column self.followed self.start self.end }
-    {
-        cell::read_field(area, at, column, self.followed, self.start, self.end)
-    }
-}
 
 // The sizes of a layout, all of it but its columns. Where `ready` takes the layout, a cell read of one column has 26 %
 // more instructions, since it copies 2,088 bytes; where it borrows the layout, one of 41 columns has 25 % more.

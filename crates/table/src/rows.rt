@@ -10,8 +10,7 @@ ghost use Rattle.table.specs.NextPlace.{next_place};
 ghost use Rattle.table.specs.Scan.{heap_of, any_items};
 
 use super::pass;
-use super::pass::Heap;
-use cell::{Cell, Field};
+use cell::{Cell, Field, Heap};
 use layout::{BinTable, Column};
 use tform::TFormType;
 use walk::{Entry, TableData};
@@ -72,7 +71,7 @@ impl TableRow<'_> {
         let mut total: u64 = 0;
         for c in pass::chosen_columns(self.cursor.choice, self.layout.tfields) {
             let column = self.layout.columns[c];
-            total += cell::field_size(heap.field(self.area, start + column.start, column));
+            total += field_entries(self.area, start + column.start, column, &heap);
         }
         total
     }
@@ -86,7 +85,7 @@ impl TableRow<'_> {
         let mut left = self.cursor.passed;
         for c in pass::chosen_columns(self.cursor.choice, self.layout.tfields) {
             let column = self.layout.columns[c];
-            let field = heap.field(self.area, start + column.start, column);
+            let field = cell::read_field(self.area, start + column.start, column, &heap);
             let size = cell::field_size(field);
             if left < size {
                 return entry_in(self.area, column, self.cursor.row, c, field, left);
@@ -98,18 +97,27 @@ impl TableRow<'_> {
     }
 }
 
+// How many entries the field of a column at a place has. Where `column_size` reads the field itself, each column is
+// copied for it, and cell reads of 41 columns take 50 % more instructions.
+fn field_entries(area: &[u8], at: u64, column: Column, heap: &Heap) -> u64
+    ensures { result ≡ size_of (field area.now at column heap.now.followed heap.now.start heap.now.end) }
+{
+    cell::field_size(cell::read_field(area, at, column, heap))
+}
+
 // How many entries the field of a column at a place has: none if the column is not chosen. Only a descriptor has to be
 // read for it.
 #[tactic(auto, unfolding(cell::specs::Field::field))]
-pub fn column_size(area: &[u8], at: u64, column: Column, is_chosen: bool, heap: Heap) -> u64
-    ensures { result ≡ cond is_chosen (size_of (field area.now at column heap.followed heap.start heap.end)) 0 }
+pub fn column_size(area: &[u8], at: u64, column: Column, is_chosen: bool, heap: &Heap) -> u64
+    ensures { result ≡ cond is_chosen
+        (size_of (field area.now at column heap.now.followed heap.now.start heap.now.end)) 0 }
 {
     if !is_chosen {
         return 0;
     }
     match column.form {
         TFormType::Items(ty) => tform::item_count(ty, column.count as u64),
-        TFormType::P(_) | TFormType::Q(_) => cell::field_size(heap.field(area, at, column)),
+        TFormType::P(_) | TFormType::Q(_) => field_entries(area, at, column, heap),
     }
 }
 
@@ -147,14 +155,14 @@ pub fn entry_of(
     cursor: TableData,
     c: usize,
     idx: u64,
-    heap: Heap,
+    heap: &Heap,
 ) -> Entry
-    requires { (idx < size_of (field area.now at column heap.followed heap.start heap.end))
-        × ItemsInside data_limit (field area.now at column heap.followed heap.start heap.end) }
+    requires { (idx < size_of (field area.now at column heap.now.followed heap.now.start heap.now.end))
+        × ItemsInside data_limit (field area.now at column heap.now.followed heap.now.start heap.now.end) }
     ensures { result ≡ entry_in column area.now cursor.row c
-        (field area.now at column heap.followed heap.start heap.end) idx }
+        (field area.now at column heap.now.followed heap.now.start heap.now.end) idx }
 {
-    let field = heap.field(area, at, column);
+    let field = cell::read_field(area, at, column, heap);
     entry_in(area, column, cursor.row, c, field, idx)
 }
 

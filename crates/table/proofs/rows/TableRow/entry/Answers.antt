@@ -11,7 +11,7 @@ use Rattle.walk.specs.Plain.{column_of, field_of, column_size, entry_in}
 use Rattle.walk.proofs.Inside.{fits_layout, items_bound}
 use Rattle.walk.proofs.Laws.{from, from_row, length_from, at_here, at_later}
 use Rattle.table.specs.declared.pass.Chosen.{Chosen}
-use Rattle.table.specs.declared.pass.Heap.{Heap}
+use Rattle.cell.specs.declared.Heap.{Heap}
 use Rattle.table.specs.Scan.{heap_of}
 use Rattle.table.proofs.ToNext.{next_from_lem}
 use Rattle.table.proofs.Columns.{Gave, gave, ended_from}
@@ -61,7 +61,7 @@ entry_in-requires c =
     let u = c.args.self.now.cursor in
     let s = c.loop-c in
     let g = gave u.choice l.tfields c.span-start.ensures.few s.c-iterator c.next.new.self s.invariant.over c.in-Some.c c.in-Some.ensures.steps in
-    let f = field_is l a u c.in-Some.c _ _ c.span-start.ensures.start c.span-start.ensures.heap _ c.field-field.ensures in (
+    let f = field_is l a u c.in-Some.c _ _ c.span-start.ensures.start c.span-start.ensures.heap _ c.read_field-field.ensures in (
       rw c.field_size-size.ensures at c.if-left-size.true,
       subst (ItemsInside data_limit) (sym f)
           (items_bound l (fits_layout l a c.args.self.now.fit) a u.heap u.row c.in-Some.c c.args.self.now.inside g.column),
@@ -74,11 +74,11 @@ returns-then-left-size c =
     let u = c.args.self.now.cursor in
     let s = c.loop-c in
     let g = gave u.choice l.tfields c.span-start.ensures.few s.c-iterator c.next.new.self s.invariant.over c.in-Some.c c.in-Some.ensures.steps in
-    let f = field_is l a u c.in-Some.c _ _ c.span-start.ensures.start c.span-start.ensures.heap _ c.field-field.ensures in
+    let f = field_is l a u c.in-Some.c _ _ c.span-start.ensures.start c.span-start.ensures.heap _ c.read_field-field.ensures in
     c.entry_in.ensures
     ∙ sym
     (s.invariant.same
-    ∙ here l a u s.c-iterator.next c.in-Some.c s.left _ _ g c.field-field.result f c.field_size-size.ensures c.if-left-size.true)
+    ∙ here l a u s.c-iterator.next c.in-Some.c s.left _ _ g c.read_field-field.result f c.field_size-size.ensures c.if-left-size.true)
 
 pub loop-c-preserved : goal.loop-c-preserved
 loop-c-preserved c =
@@ -87,13 +87,13 @@ loop-c-preserved c =
     let u = c.args.self.now.cursor in
     let s = c.loop-c in
     let g = gave u.choice l.tfields c.span-start.ensures.few s.c-iterator c.next.new.self s.invariant.over c.in-Some.c c.in-Some.ensures.steps in
-    let f = field_is l a u c.in-Some.c _ _ c.span-start.ensures.start c.span-start.ensures.heap _ c.field-field.ensures in
+    let f = field_is l a u c.in-Some.c _ _ c.span-start.ensures.start c.span-start.ensures.heap _ c.read_field-field.ensures in
     record {
       over = g.over;
-      inside = rw g.later (inside l a u s.c-iterator.next c.in-Some.c s.left _ _ g c.field-field.result f c.field_size-size.ensures c.if-left-size.false s.invariant.inside);
+      inside = rw g.later (inside l a u s.c-iterator.next c.in-Some.c s.left _ _ g c.read_field-field.result f c.field_size-size.ensures c.if-left-size.false s.invariant.inside);
       same = rw g.later
           (s.invariant.same
-          ∙ later l a u s.c-iterator.next c.in-Some.c s.left _ _ g c.field-field.result f c.field_size-size.ensures c.if-left-size.false);
+          ∙ later l a u s.c-iterator.next c.in-Some.c s.left _ _ g c.read_field-field.result f c.field_size-size.ensures c.if-left-size.false);
     }
 
 pub returns : goal.returns

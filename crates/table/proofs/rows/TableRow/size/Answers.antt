@@ -7,7 +7,7 @@ use Rattle.walk.specs.Plain.{column_of, field_of, column_size}
 use Rattle.walk.proofs.Inside.{fits_layout, row_bound}
 use Rattle.walk.proofs.Laws.{from, from_row, length_from}
 use Rattle.table.specs.declared.pass.Chosen.{Chosen}
-use Rattle.table.specs.declared.pass.Heap.{Heap}
+use Rattle.cell.specs.declared.Heap.{Heap}
 use Rattle.table.specs.Scan.{heap_of}
 use Rattle.table.proofs.ToNext.{next_from_lem}
 use Rattle.table.proofs.Columns.{Gave, gave, ended_from}
@@ -42,7 +42,7 @@ overflow_add-total c =
       arith,
       grows l a u c.span-start.result.start s.c-iterator.next c.in-Some.c s.total _ c.span-start.result.heap c.next.new.self
           c.span-start.ensures.start c.span-start.ensures.heap g s.invariant.counted,
-      rw c.field.ensures at c.field_size-total.ensures,
+      c.field_entries-total.ensures,
       row_bound l (fits_layout l a c.args.self.now.fit) a u.choice u.heap u.row,
     )
 
@@ -55,7 +55,7 @@ loop-c-preserved c =
     let g = gave u.choice l.tfields c.span-start.ensures.few s.c-iterator c.next.new.self s.invariant.over c.in-Some.c c.in-Some.ensures.steps in
     record {
       over = g.over;
-      counted = rw (g.later, c.field_size-total.ensures, c.field.ensures)
+      counted = rw (g.later, c.field_entries-total.ensures)
           (omega (
             arith,
             grows l a u c.span-start.result.start s.c-iterator.next c.in-Some.c s.total _ c.span-start.result.heap c.next.new.self
