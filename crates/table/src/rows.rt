@@ -77,7 +77,7 @@ impl TableRow<'_> {
     }
 
     // The entry at the cursor's place.
-    pub fn entry(&self) -> Entry
+    pub(crate) fn entry(&self) -> Entry
         requires { self.now.cursor.passed < length (entries_of self.now) }
         ensures { result ≡ get_or (entries_of self.now) self.now.cursor.passed (OutsideHeap 0) }
     {
