@@ -3,7 +3,9 @@
 use mathlib.Core.Path.{◌≡◌, refl, sym, ap, ◌∙◌}
 use mathlib.Core.Bool.{true, false}
 use mathlib.Core.List.{List, [], ◌++◌, append-nil}
-use Prim.Native.Nat.{ℕ, suc, ◌+◌, ◌*◌, ◌/◌, ◌<◌, ◌≤◌, min}
+use Rattle.std.specs.Prelude.{Option, Some, None}
+use Rattle.std.specs.Option.{MatchOption}
+use Prim.Native.Nat.{ℕ, zero, suc, ◌+◌, ◌*◌, ◌/◌, ◌<◌, ◌≤◌, min}
 use native.Mathlib.Omega.{arith}
 use native.Mathlib.Nat.{zero-add}
 use native.Mathlib.Numerals.{add-one}
@@ -67,3 +69,23 @@ module _ (f : List ℕ) where
   pub len_over : has_end (records f) ≡ false → header_len f ≡ length f
   unfolding header_len
   len_over e = rw e
+
+  -- none of the first k records is END
+  open_to : (k : ℕ) → k ≤ length f / 80 → ((i : ℕ) → 0 ≤ i → i < k → is_end (card_at f i) ≡ false) → Open (records f) k
+  open_to zero h none = open_none (records f)
+  open_to (suc k) h none =
+      let p : k < length f / 80 = omega (arith, h) in
+      rw (← add-one k)
+      (open_next (records f) k (open_to k (omega (arith, h)) (λ i a b. none i a (omega (arith, b)))) (omega (arith, record_count f, p))
+      (ap is_end (record_at f k p) ∙ none k (omega arith) (omega arith)))
+
+  -- the length of the header is told by the first record that is END, if there is one
+  pub len_by_first : (r : Option ℕ) (n : ℕ) (Ends : ℕ → Type 0)
+      → ((k : ℕ) → Ends k → n ≡ min (length f) ((k / 36 + 1) * 2880))
+      → MatchOption r ((i : ℕ) → 0 ≤ i → i < length f / 80 → is_end (card_at f i) ≡ false)
+      (λ k. (0 ≤ k) × (k < length f / 80) × (is_end (card_at f k) ≡ true) × ((i : ℕ) → 0 ≤ i → i < k → is_end (card_at f i) ≡ false))
+      → MatchOption r (n ≡ length f) Ends
+      → n ≡ header_len f
+  len_by_first None n Ends there none e =
+      e ∙ sym (len_over (open_over (records f) _ (open_to (length f / 80) (omega arith) none) (omega (arith, record_count f))))
+  len_by_first (Some k) n Ends there (_, h, t, none) e = there k e ∙ sym (len_at k (open_to k (omega (arith, h)) none) h t)

@@ -63,10 +63,8 @@ pub fn parse(header: &[u8]) -> Header
 pub fn header_len(file: &[u8]) -> usize
     ensures { result ≡ header_len file.now }
 {
-    for k in 0..file.len() / RECORD_BYTES {
-        if card::is_end(file, k) {
-            return records::block_end(file.len(), k);
-        }
-    }
-    file.len()
+    let size = file.len();
+    (0..size / RECORD_BYTES)
+        .find(|k| card::is_end(file, *k))
+        .map_or(size, |k| records::block_end(size, k))
 }
