@@ -1,10 +1,11 @@
 -- What a loop over the chosen columns learns of a call of the iterator's `next`.
 -- Assumes nothing.
 use Rattle.std.specs.Prelude.{Some, None}
+use Rattle.std.specs.Iterator.{Yields, CallableAtEachTurn}
 use Prim.Native.Nat.{ℕ, suc, ◌≤◌, ◌<◌}
-use mathlib.Core.Path.{◌≡◌, refl, ◌∙◌}
+use mathlib.Core.Path.{◌≡◌, refl, ap, ◌∙◌}
 use mathlib.Core.Bool.{Bool, true}
-use mathlib.Core.List.{List, []}
+use mathlib.Core.List.{List, [], ◌∷◌}
 use native.Mathlib.Omega.{arith}
 use Rattle.layout.specs.declared.BinTable.{BinTable}
 use Rattle.walk.specs.Plain.{chosen}
@@ -47,3 +48,13 @@ module _ (choice n : ℕ) (few : n ≤ 64) (s t : Chosen) (o : Over choice n s) 
   pub ended_from : NextChosen s None t → (l : BinTable) → n ≡ l.tfields → (a : List ℕ) (heap : Bool) (r : ℕ) → from l a choice heap r s.next ≡ []
   ended_from e l m a heap r =
       next_from_lem choice s.next _ refl l a heap r ∙ from_end l a choice heap r _ (omega (arith, m, ended e))
+
+-- what `any` asks of its closure: each column that may come is one of n
+in_columns : (s : Chosen) (xs : List ℕ) (t u : Chosen) (c : ℕ) → Yields NextChosen s xs t → NextChosen t (Some c) u → c < s.tfields
+in_columns s [] t u c e (_, h, _) = rw e h
+in_columns s (x ∷ xs) t u c (k, (_, _, q), ys) st = rw (ap (λ (v : Chosen). v.tfields) q) at (in_columns k xs t u c ys st)
+
+pub callable : {F : Type 0} {R : F → ℕ → F → Type 0} {Q : F → ℕ → Type 0} (s : Chosen) (f : F) → s.tfields ≤ 64
+    → ((p : F) (c : ℕ) → c < 64 → Q p c) → CallableAtEachTurn NextChosen R Q s f
+callable s f few can =
+    record { at = λ xs t q c u ys fs st. can q c (omega (arith, few, in_columns s xs t u c ys st)) }

@@ -1,10 +1,17 @@
 -- Where no chosen column holds an item or a descriptor, no row has an entry: what the search for the next entry then leaves out.
 -- Assumes nothing.
+use Rattle.std.specs.Prelude.{Option, Some, None}
+use Rattle.std.specs.Option.{MatchOption}
+use Rattle.std.specs.List.{FoldsTo}
+use Rattle.std.specs.Fn.{Called}
+use Rattle.std.specs.Iterator.{YieldsThen}
+use denote.Param.Members.{Mut}
 use Prim.Native.Nat.{ℕ, zero, suc, ◌-◌, ◌≤◌, ◌<◌}
 use mathlib.Core.Path.{◌≡◌, refl, sym, ◌∙◌}
-use mathlib.Core.Bool.{Bool, true, false, false≢true, cond, ◌&&◌, ◌||◌}
-use mathlib.Core.List.{List}
+use mathlib.Core.Bool.{Bool, true, false, false≢true, and-false, cond, ◌&&◌, ◌||◌}
+use mathlib.Core.List.{List, [], ◌∷◌}
 use native.Mathlib.Omega.{arith}
+use native.Mathlib.Nat.{sub-zero}
 use lib.ListN.{length, length-append}
 use lib.Dec.{ltb}
 use borrow.Author.Tests.{ltb-true, ltb-false, lt-ltb}
@@ -16,6 +23,9 @@ use Rattle.cell.proofs.Empty.{field_none}
 use Rattle.walk.specs.declared.Entry.{Entry}
 use Rattle.walk.specs.Plain.{column_of, field_at, field_of, chosen, column_size, columns_entries, row_entries}
 use Rattle.walk.proofs.Laws.{column_length}
+use Rattle.table.specs.declared.pass.Chosen.{Chosen}
+use Rattle.table.specs.Chosen.{NextChosen, all_chosen}
+use Rattle.table.proofs.Columns.{Over, gave, ended}
 use Rattle.table.specs.Scan.{next_chosen, items_in, any_items}
 use Rattle.table.proofs.ToNext.{to_next}
 
@@ -77,3 +87,28 @@ module _ (l : BinTable) (choice : ℕ) where
   any_next c j is =
       rw is
       (to_next choice (λ (i : ℕ). any_from c ≡ any_from i) (λ i e q. q ∙ any_later i (rw e)) c refl)
+
+  -- what `any` answers, where its closure f tells whether a column holds something
+  module _ (few : l.tfields ≤ 64) {F : Type 0} (g : Mut F (ℕ × Unit {0}) Bool) (f : F)
+      (tells : (c : ℕ) (b : Bool) (q : F) → Called g f (c, tt) b q → (q ≡ f) × (b ≡ ltb 0 (items_in l c))) where
+    any_run : (r : Bool) (u : Chosen) (o : Option ℕ) (j : F) (xs : List ℕ) (s : Chosen) → Over choice l.tfields s
+        → YieldsThen NextChosen s xs o u → FoldsTo (λ (p : F) c q. Called g p (c, tt) false q) f xs j
+        → MatchOption o (r ≡ false) (λ c. (r ≡ true) × ((h : F) × Called g j (c, tt) true h)) → r ≡ any_from s.next
+    any_run r u None j [] s over (t, e, st) fs m =
+        m ∙ sym (any_next s.next _ refl ∙ any_end _ (ended choice l.tfields few s u over (rw e st)))
+    any_run r u (Some c) j [] s over (t, e, st) fs (m, (h, call)) =
+        let v = gave choice l.tfields few s u over c (rw e st) in
+        let w = tells c true h (rw fs call) in
+        m ∙ sym (any_next s.next c v.is ∙ any_here c v.column v.picked (ltb-true 0 (items_in l c) (sym w.1)))
+    any_run r u o j (c ∷ xs) s over (t, (k, st, ys), last) (p, call, fs) m =
+        let v = gave choice l.tfields few s k over c st in
+        let w = tells c false p call in
+        any_run r u o j xs k v.over (t, ys, last) (rw (← w.0) fs) m
+        ∙ sym (any_next s.next c v.is ∙ any_later c (rw (← w.1) (and-false (chosen choice c))) ∙ rw v.later refl)
+
+    pub any_told : (r : Bool) (s u : Chosen) → s ≡ all_chosen choice l.tfields
+        → (xs : List ℕ) × (o : Option ℕ) × (j : F) × YieldsThen NextChosen s xs o u × FoldsTo (λ (p : F) c q. Called g p (c, tt) false q) f xs j
+        × MatchOption o (r ≡ false) (λ c. (r ≡ true) × ((h : F) × Called g j (c, tt) true h))
+        → r ≡ any_items l choice 0 l.tfields
+    any_told r s u e (xs, o, j, ys, fs, m) =
+        any_run r u o j xs s (rw e record { choice_is = refl; columns = refl }) ys fs m ∙ rw (e, sub-zero l.tfields) refl

@@ -171,13 +171,14 @@ fn any_items(layout: BinTable, choice: u64) -> bool
     requires { layout.tfields ≤ 64 }
     ensures { result ≡ any_items layout choice 0 layout.tfields }
 {
-    for c in pass::chosen_columns(choice, layout.tfields) {
-        let column = layout.columns[c];
-        if 0 < tform::field_items(column.form, column.count) {
-            return true;
-        }
-    }
-    false
+    pass::chosen_columns(choice, layout.tfields).any(
+        |c|
+            requires { c < 64 }
+        {
+            let column = layout.columns[c];
+            0 < tform::field_items(column.form, column.count)
+        },
+    )
 }
 
 // The next entry from the cursor's place on, passing rows that have none left.
