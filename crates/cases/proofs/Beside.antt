@@ -1,19 +1,40 @@
 -- A text beside the lines that are left to print, page by page.
 -- Assumes nothing.
+use Rattle.std.specs.Prelude.{is_some}
+use Rattle.std.specs.Bool.{then_some}
 use Prim.Native.Nat.{ℕ, ◌+◌, ◌<◌, ◌≤◌}
-use mathlib.Core.Path.{◌≡◌, sym, ap, subst, ◌∙◌}
-use mathlib.Core.Bool.{true, false}
+use mathlib.Core.Path.{◌≡◌, refl, sym, ap, subst, ◌∙◌}
+use mathlib.Core.Bool.{Bool, true, false}
 use mathlib.Core.List.{List, [], ◌++◌}
 use native.Mathlib.Omega.{arith}
 use lib.Dec.{eqb}
 use lib.ListN.{length, take, drop, take-append-drop, length-take, length-drop, drop_of_length-le}
-use lib.Seq.{take-append_seam, drop-drop}
+use lib.Seq.{take-append_seam, drop-drop, length-take-le}
 use borrow.Author.Tests.{eqb-true, eqb-false}
 use Rattle.ascii.specs.Text.{same}
+use Rattle.ascii.specs.Buffer.{put_in}
 use Rattle.ascii.proofs.Cases.{either}
+use Rattle.ascii.proofs.Chain.{front}
 use Rattle.ascii.proofs.Same.{same_true, same_false, same_length, same_not, same_root}
 use Rattle.output.specs.Page.{lines_text, page_text, page_rest}
-use Rattle.output.proofs.Whole.{page_whole}
+use Rattle.output.proofs.Whole.{page_whole, page_length}
+
+-- a page in its buffer: n is its length
+module _ (out next : List ℕ) (lines : List (List ℕ)) (n : ℕ) (e : n ≡ length (page_text (length out) lines)) where
+  pub page_fits : length next ≡ length out → n ≤ length next
+  page_fits h = omega (arith, e, h, page_length (length out) lines)
+
+  pub page_taken : length next ≡ length out → n ≡ length (take n next)
+  page_taken h = sym (length-take-le n next (page_fits h))
+
+  pub page_front : next ≡ put_in out 0 (page_text (length out) lines) → take n next ≡ page_text (length out) lines
+  page_front h =
+      front out (page_text (length out) lines) {p = n} (omega (arith, e, page_length (length out) lines))
+      (omega (arith, e), h)
+
+pub told : {A : Type 0} (b : Bool) (x : A) → is_some (then_some b x) ≡ b
+told true x = refl
+told false x = refl
 
 module _ (x p : List ℕ) where
   -- a shorter text does not begin with p

@@ -2,13 +2,12 @@
 ghost use Rattle.std.specs.Prelude.{◌≡◌, ◌+◌, ◌≤◌, length, is_some, IfSome};
 ghost use Rattle.ascii.specs.Text.{same};
 ghost use Rattle.output.specs.Cells.{file_limit};
-ghost use Rattle.output.specs.State.{file_left};
+ghost use Rattle.output.specs.State.{left_of};
 ghost use Rattle.output.specs.Page.{page_room, lines_text};
 ghost use Rattle.output.specs.declared.Page.{Page};
 ghost use Rattle.cases.specs.Text.{replay_text, begins_page, IsPage};
 
-use layout::BinTable;
-use output::{PAGE_ROOM, Page, Start, State};
+use output::{PAGE_ROOM, Page, Source, Start, State};
 
 // The buffer of a page. Its contents do not matter, and the proof of a caller is shorter without them.
 fn zeros() -> [u8; PAGE_ROOM]
@@ -18,32 +17,26 @@ fn zeros() -> [u8; PAGE_ROOM]
 }
 
 // The next page, if the text begins with it.
-fn compare_page(
-    file: &[u8],
-    layout: BinTable,
-    steps: &[u8],
-    state: State,
-    text: &[u8],
-) -> Option<Page>
-    ensures begins { is_some result ≡ begins_page text.now (file_left file.now layout steps.now state) }
+#[tactic(auto, using(crate::proofs::Beside::page_fits, crate::proofs::Beside::page_taken, crate::proofs::Beside::page_front, crate::proofs::Beside::told))]
+fn compare_page(source: &Source, state: State, text: &[u8]) -> Option<Page>
+    ensures begins { is_some result ≡ begins_page text.now (left_of source.now state) }
     ensures page { IfSome result (λ (p : Page).
-        IsPage (length file.now + 128) (file_left file.now layout steps.now state)
-        (file_left file.now layout steps.now p.state) p.len) }
+        IsPage (length source.now.file.now + 128) (left_of source.now state) (left_of source.now p.state) p.len) }
 {
     let mut out = zeros();
-    let page = output::next_page(file, layout, steps, state, &mut out);
+    let page = source.next_page(state, &mut out);
     ascii::begins_with(text, &out[..page.len]).then_some(page)
 }
 
 // Whether a text is what is left to print: page after page stands in it, and after the last one nothing is left of it.
-fn same_pages(file: &[u8], layout: BinTable, steps: &[u8], state: State, text: &[u8]) -> bool
-    requires { length file.now ≤ file_limit }
-    ensures { result ≡ same text.now (lines_text (file_left file.now layout steps.now state)) }
+fn same_pages(source: &Source, state: State, text: &[u8]) -> bool
+    requires { length source.now.file.now ≤ file_limit }
+    ensures { result ≡ same text.now (lines_text (left_of source.now state)) }
 {
     let mut at: usize = 0;
     let mut current = state;
     loop {
-        let Some(page) = compare_page(file, layout, steps, current, &text[at..]) else {
+        let Some(page) = compare_page(source, current, &text[at..]) else {
             return false;
         };
         // A page is empty where no line is left: its length says so in `output` too.
@@ -61,5 +54,10 @@ pub fn same_text(file: &[u8], steps: &[u8], expected: &[u8]) -> bool
 {
     let table = output::first_bytes(file);
     let Start { layout, state } = output::replay_start(table, steps);
-    same_pages(table, layout, output::first_bytes(steps), state, expected)
+    let source = Source {
+        file: table,
+        layout,
+        steps: output::first_bytes(steps),
+    };
+    same_pages(&source, state, expected)
 }

@@ -8,8 +8,7 @@ ghost use Rattle.std.specs.Prelude.{◌≡◌, ◌≤◌, [], length, take};
 ghost use Rattle.output.specs.Cells.{file_limit};
 ghost use Rattle.output.specs.State.{file_left};
 
-use layout::BinTable;
-use output::{FILE_LIMIT, State};
+use output::{FILE_LIMIT, Source, Start, State};
 use std::fs::File;
 use std::io;
 use std::io::{Read, Write};
@@ -67,22 +66,16 @@ pub fn write_text(rt: &HostRuntime, text: &[u8], len: usize) {
 
 // Prints what is left to print of the first bytes of a file and of its steps, one page after the other. In the state
 // that it returns nothing is left.
-pub fn print_pages(
-    rt: &HostRuntime,
-    file: &[u8],
-    layout: BinTable,
-    steps: &[u8],
-    state: State,
-) -> State
-    ensures { file_left (take file_limit file.now) layout (take file_limit steps.now) result ≡ [] }
+pub fn print_pages(rt: &HostRuntime, source: &Source, state: State) -> State
+    ensures { let s = source.now in
+        file_left (take file_limit s.file.now) s.layout (take file_limit s.steps.now) result ≡ [] }
 {
-    pages::print_rest(
-        rt,
-        output::first_bytes(file),
-        layout,
-        output::first_bytes(steps),
-        state,
-    )
+    let first = Source {
+        file: output::first_bytes(source.file),
+        layout: source.layout,
+        steps: output::first_bytes(source.steps),
+    };
+    pages::print_rest(rt, &first, state)
 }
 
 // What the program `cells` does: prints the table of the file table.fits, its columns and every cell (docs/FORMAT.md,
@@ -91,6 +84,11 @@ pub fn print_cells(rt: &HostRuntime) {
     let mut buffer = file_buffer();
     let n = read_file(rt, b"table.fits", &mut buffer);
     let file = &buffer[..n];
-    let start = output::cells_start(file);
-    print_pages(rt, file, start.layout, b"", start.state);
+    let Start { layout, state } = output::cells_start(file);
+    let source = Source {
+        file,
+        layout,
+        steps: b"",
+    };
+    print_pages(rt, &source, state);
 }

@@ -1,7 +1,7 @@
 -- The lines before the first step, read one by one.
 -- Assumes nothing.
 use Rattle.std.specs.Prelude.{Some, None, Result, Err, Ok}
-use Prim.Native.Nat.{ℕ, suc, ◌+◌, ◌≤◌, ◌<◌}
+use Prim.Native.Nat.{ℕ, suc, ◌+◌, ◌-◌, ◌≤◌, ◌<◌}
 use mathlib.Core.Path.{◌≡◌, refl, sym, ◌∙◌}
 use mathlib.Core.Bool.{true, false, cond}
 use mathlib.Core.List.{List, [], ◌∷◌}
@@ -22,12 +22,12 @@ use Rattle.listing.specs.Lines.{refused_line}
 use Rattle.steps.specs.Split.{before, lines_of, line_at, line_feeds}
 use Rattle.steps.specs.Line.{Says, says, choose_all, choose, heap, cell, row, bad, command_of}
 use Rattle.steps.specs.Line as S
-use Rattle.steps.proofs.Lines.{lines_next, lines_none, feeds_next}
+use Rattle.steps.proofs.Lines.{line_length, lines_next, lines_none, feeds_next}
 use Rattle.output.specs.Cells.{header_of, data_of}
 use Rattle.output.specs.Replay as R
 use Rattle.output.specs.State.{steps_from}
 use Rattle.output.specs.declared.settings.Settings.{Settings}
-use Rattle.output.specs.Settings.{columns_in, settings_in, changed, Read, Reading}
+use Rattle.output.specs.Settings.{columns_in, settings_in, changed, next_settings, Read, Reading}
 
 -- where no line is left its number does not matter
 none_by : (l : BinTable) (a : List ℕ) (st : R.Settings) (m n : ℕ) (x : H.Outcome)
@@ -90,22 +90,44 @@ over_by t (row m) n f = refl
 over_by t (S.seek r) n f = refl
 over_by t bad n f = refl
 
-module _ (s : List ℕ) (t : Settings) (r : Reading s t) where
-  module _ (h : t.at < length s) (n : ℕ) (e : n ≡ before 10 (drop t.at s)) where
-    -- a line that sets something
-    pub reading_next : (u : Settings) → Some u ≡ changed t (command_of (says (line_at s t.at))) n → Reading s u
-    reading_next u f l a =
-        let g = set_by s t u (says (line_at s t.at)) n refl f in
-        rw (g.value, g.place, e) (sym (next_lines s t.at h l a (settings_in s t) ∙ rw g.setting) ∙ r l a)
+-- the next line sets something
+record Next (s : List ℕ) (t u : Settings) : Type 0 where
+  inside : t.at < length s
+  set : Set s t u (says (line_at s t.at)) (length (line_at s t.at))
 
-    -- the first line that is none of them
-    pub reading_over : None ≡ changed t (command_of (says (line_at s t.at))) n → Read s t
-    reading_over f l a = sym (next_lines s t.at h l a (settings_in s t) ∙ rw (over_by t (says (line_at s t.at)) n f)) ∙ r l a
+next_by : (s : List ℕ) (t u : Settings) → Some u ≡ next_settings s t → Next s t u
+next_by s t u f =
+    either (ltb t.at (length s))
+    (λ y. record { inside = ltb-true _ _ y; set = set_by s t u (says (line_at s t.at)) (length (line_at s t.at)) refl (rw y at f) })
+    (λ y. not_over (Next s t u) u (rw y at f))
+
+-- so the place of the next one is further on
+pub place_next : (s : List ℕ) (t u : Settings) → Some u ≡ next_settings s t → length s - u.at < length s - t.at
+place_next s t u f =
+    let g = next_by s t u f in
+    omega (arith, g.inside, g.set.place)
+
+module _ (s : List ℕ) (t : Settings) (r : Reading s t) where
+  pub reading_next : (u : Settings) → Some u ≡ next_settings s t → Reading s u
+  reading_next u f l a =
+      let g = next_by s t u f in
+      rw (g.set.value, g.set.place, line_length s t.at g.inside)
+      (sym (next_lines s t.at g.inside l a (settings_in s t) ∙ rw g.set.setting) ∙ r l a)
+
+  -- the first line that is none of them
+  over_inside : t.at < length s → None ≡ changed t (command_of (says (line_at s t.at))) (length (line_at s t.at)) → Read s t
+  over_inside h f l a =
+      sym (next_lines s t.at h l a (settings_in s t) ∙ rw (over_by t (says (line_at s t.at)) (length (line_at s t.at)) f)) ∙ r l a
 
   -- the end of the file
-  pub reading_end : length s ≤ t.at → Read s t
+  over_end : length s ≤ t.at → Read s t
   unfolding R.setting_lines
-  reading_end h l a = let z = rw (lines_none s t.at h) at (r l a) in rw (lines_none s t.at h) z
+  over_end h l a = let z = rw (lines_none s t.at h) at (r l a) in rw (lines_none s t.at h) z
+
+  pub reading_over : None ≡ next_settings s t → Read s t
+  reading_over f =
+      either (ltb t.at (length s)) (λ y. over_inside (ltb-true _ _ y) (rw y at f))
+      (λ y. over_end (ltb-false _ _ y))
 
 -- ---- the opening
 

@@ -1,6 +1,7 @@
 -- The columns of a `choose` line: the list that has each of its indexes at the place that it names opens the same
 -- columns as its indexes do.
 -- Assumes nothing.
+use Rattle.std.specs.Prelude.{Option, Some}
 use Prim.Native.Nat.{ℕ, zero, suc, ◌+◌, ◌<◌, ◌≤◌}
 use mathlib.Core.Path.{◌≡◌, refl, ap, ◌∙◌}
 use mathlib.Core.Logic.{◌⊎◌, inl, inr, ⊎_elim}
@@ -15,7 +16,10 @@ use Rattle.ascii.proofs.Cases.{either}
 use Rattle.tform.specs.Width.{among}
 use Rattle.layout.specs.declared.BinTable.{BinTable}
 use Rattle.walk.specs.Step.{fits, listed, choice_from, open_with}
-use Rattle.steps.specs.Line.{in_places}
+use Rattle.walk.proofs.Inside.{fits_limits}
+use Rattle.steps.specs.Split.{line_at}
+use Rattle.steps.specs.Line.{says, indexes_of, in_places}
+use Rattle.output.specs.Settings.{columns_in}
 
 -- ---- a list of which each place holds its own index or m
 
@@ -102,7 +106,7 @@ module _ (m : ℕ) where
       ∙ ap (λ (t : Bool). among c is || t) (among_none c m m b)
       ∙ or-false (among c is)
 
-  pub columns_same : (l : BinTable) (a is : List ℕ) (heap : Bool) → (fits l a ≡ true → l.tfields ≤ m)
+  columns_same : (l : BinTable) (a is : List ℕ) (heap : Bool) → (fits l a ≡ true → l.tfields ≤ m)
       → open_with l a (listed (in_places (replicate m m) is)) heap ≡ open_with l a (listed is) heap
   unfolding open_with
   columns_same l a is heap few =
@@ -112,3 +116,9 @@ module _ (m : ℕ) where
       let z = choice_same (in_places (replicate m m) is) is 0 l.tfields (λ k h. among_listed k is (below k h)) in
       rw (t, z))
       (λ t. rw t)
+
+-- by what the code has: the columns that were opened, the line, and the place of the line
+pub columns_placed : (l : BinTable) (a s xs : List ℕ) (heap : Bool) (at : ℕ) (t : List ℕ) (x : Option ℕ) → x ≡ Some at → t ≡ line_at s at
+    → xs ≡ in_places (replicate 64 64) (indexes_of (says t)) → open_with l a (listed xs) heap ≡ open_with l a (columns_in s x) heap
+columns_placed l a s xs heap at t x e f g =
+    rw (g, f, e) (columns_same 64 l a (indexes_of (says (line_at s at))) heap (λ t. (fits_limits l a t).columns))

@@ -55,7 +55,7 @@ module _ (h : List ℕ) (l : BinTable) (a s : List ℕ) where
       (λ t. rw t (ten_lines r.answer r.cursor (ap (λ (o : StepResult). o.reply) (told ∙ step_unfit l a c read_cell t))))
 
   -- the lines by what an opening returned
-  abbrev pub open_lines : Result TableData Refusal → List (List ℕ)
+  abbrev open_lines : Result TableData Refusal → List (List ℕ)
   open_lines (Ok d) = left h l a s (S.Cells d)
   open_lines (Err q) = refused_line (number_of q) (place_of q) ∷ []
 
@@ -68,7 +68,7 @@ module _ (h : List ℕ) (l : BinTable) (a s : List ℕ) where
       let n : l.naxis2 - 0 ≡ l.naxis2 = omega arith in
       rw (e, f, k, ok_start rows l.naxis2 0 (omega arith)) (ap (entry_lines 0) (left_start rows l.naxis2 (l.naxis2 - 0) 0 ∙ rw n))
 
-  pub open_lines_lem : (r : Result TableData Refusal) → opening_of r ≡ open_with l a all_columns true → open_lines r ≡ after_columns l a
+  open_lines_lem : (r : Result TableData Refusal) → opening_of r ≡ open_with l a all_columns true → open_lines r ≡ after_columns l a
   unfolding open_with
   open_lines_lem (Err q) e = rw (← e)
   open_lines_lem (Ok d) e =
@@ -84,6 +84,14 @@ module _ (h : List ℕ) (l : BinTable) (a s : List ℕ) where
   unfolding column_lines
   column_next c k = let n : l.tfields - c ≡ suc (l.tfields - (c + 1)) = omega arith in rw (n, add-one c)
 
-  pub columns_over : (c : ℕ) → l.tfields ≤ c → after_columns l a ≡ left h l a s (S.Column c)
+  columns_over : (c : ℕ) → l.tfields ≤ c → after_columns l a ≡ left h l a s (S.Column c)
   unfolding column_lines
   columns_over c k = let n : l.tfields - c ≡ 0 = omega arith in rw n
+
+  -- after the last column the table is opened
+  pub columns_opened : (c : ℕ) (d : TableData) → opened d ≡ open_with l a all_columns true → l.tfields ≤ c → left h l a s (S.Cells d) ≡ left h l a s (S.Column c)
+  columns_opened c d e k = open_lines_lem (Ok d) e ∙ columns_over c k
+
+  pub columns_refused : (c : ℕ) (q : Refusal) → opening_of (Err q) ≡ open_with l a all_columns true → l.tfields ≤ c
+      → refused_line (number_of q) (place_of q) ∷ [] ≡ left h l a s (S.Column c)
+  columns_refused c q e k = open_lines_lem (Err q) e ∙ columns_over c k

@@ -39,10 +39,13 @@ use Rattle.output.specs.Next.{cell_next, seek_next, row_next}
 -- ---- lines of the file
 
 -- there are no more line feeds than bytes
-pub feeds_few : (s : List ℕ) → line_feeds s ≤ length s
+feeds_few : (s : List ℕ) → line_feeds s ≤ length s
 unfolding line_feeds
 feeds_few [] = omega arith
 feeds_few (b ∷ bs) = by_test (λ (n : ℕ). n ≤ suc (length bs)) (eqb b 10) (λ e. omega (arith, feeds_few bs)) (λ e. omega (arith, feeds_few bs))
+
+pub feeds_before : (s : List ℕ) (at : ℕ) → line_feeds (take at s) ≤ length s
+feeds_before s at = omega (arith, feeds_few (take at s), length-take at s)
 
 -- the step that a command is
 abbrev pub asked_of : Option Command → Asked

@@ -6,17 +6,17 @@ use Rattle.cell.specs.declared.Cell.{Cell}
 use Rattle.walk.specs.declared.TableData.{TableData}
 use Rattle.listing.specs.declared.Line.{Line}
 use Rattle.listing.specs.declared.Line.TheVariants as L
-use Rattle.output.specs.declared.Source.{Source}
+use Rattle.output.specs.declared.Parts.{Parts}
 use Rattle.output.specs.declared.State.{State}
 use Rattle.output.specs.declared.State.TheVariants as S
 use Rattle.output.specs.declared.Next.{Next}
 use Rattle.output.specs.State.{left, next_lines}
 
--- what is left to print of a source, and the lines of a next one
-abbrev pub left_of : Source → State → List (List ℕ)
-left_of s t = left s.header.now s.layout s.area.now s.steps.now t
+-- what is left to print of a source in parts, and the lines of a next one
+abbrev pub left_in : Parts → State → List (List ℕ)
+left_in s t = left s.header.now s.layout s.area.now s.steps.now t
 
-abbrev pub lines_by : Source → Option Next → List (List ℕ)
+abbrev pub lines_by : Parts → Option Next → List (List ℕ)
 lines_by s n = next_lines s.header.now s.layout s.area.now s.steps.now n
 
 -- the line of a cell read of `cells`, with the cursor d after it

@@ -1,12 +1,12 @@
 -- The settings as the private functions keep them, and what they stand for (FORMAT.md, section 17).
 -- Assumes nothing.
-use Rattle.std.specs.Prelude.{ℕ, ◌+◌, ◌≡◌, List, take, drop, Option, Some, None}
+use Rattle.std.specs.Prelude.{ℕ, ◌+◌, ◌≡◌, cond, List, length, take, drop, ltb, Option, Some, None}
 use Rattle.layout.specs.declared.BinTable.{BinTable}
 use Rattle.walk.specs.Step.{Selection, all_columns, listed}
 use Rattle.steps.specs.declared.Command.{Command}
 use Rattle.steps.specs.declared.Command.TheVariants as C
 use Rattle.steps.specs.Split.{lines_of, line_at, line_feeds}
-use Rattle.steps.specs.Line.{says, indexes_of}
+use Rattle.steps.specs.Line.{says, indexes_of, command_of}
 use Rattle.output.specs.Replay as R
 use Rattle.output.specs.declared.settings.Settings.{Settings}
 
@@ -27,6 +27,12 @@ changed t (Some C.Cell) n = None
 changed t (Some (C.Row m)) n = None
 changed t (Some (C.Seek r)) n = None
 changed t None n = None
+
+-- the settings after the next line
+abbrev pub next_settings : List ℕ → Settings → Option Settings
+next_settings s t =
+    let line = line_at s t.at in
+    cond (ltb t.at (length s)) (changed t (command_of (says line)) (length line)) None
 
 -- the settings t of the steps s, with the place after their lines, stand for the lines before the first step, whatever the table
 abbrev pub Read : List ℕ → Settings → Type 0

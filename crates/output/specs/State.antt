@@ -14,6 +14,7 @@ use Rattle.steps.specs.Split.{lines_of, line_feeds}
 use Rattle.output.specs.declared.State.{State}
 use Rattle.output.specs.declared.State.TheVariants as S
 use Rattle.output.specs.declared.Next.{Next}
+use Rattle.output.specs.declared.Source.{Source}
 use Rattle.output.specs.Cells.{header_of, data_of, entry_lines, column_lines, after_columns, entry_output}
 use Rattle.output.specs.Replay.{step_lines}
 
@@ -54,3 +55,7 @@ module _ (h : List ℕ) (l : BinTable) (a s : List ℕ) where
 -- what is left to print of a file
 abbrev pub file_left : List ℕ → BinTable → List ℕ → State → List (List ℕ)
 file_left f l s t = left (header_of f) l (data_of f) s t
+
+-- the same, of a source
+abbrev pub left_of : Source → State → List (List ℕ)
+left_of x t = file_left x.file.now x.layout x.steps.now t

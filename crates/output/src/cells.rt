@@ -1,8 +1,8 @@
 // The lines of `cells`.
 ghost use Rattle.std.specs.Prelude.{◌≡◌};
-ghost use Rattle.output.specs.Next.{cells_next, left_of, lines_by};
+ghost use Rattle.output.specs.Next.{cells_next, left_in, lines_by};
 
-use crate::{Next, Source, State};
+use crate::{Next, Parts, State};
 use cell::Cell;
 use listing::Line;
 use refusal::Refusal;
@@ -28,18 +28,20 @@ fn answered(answer: Result<Option<Cell>, Refusal>, after: TableData) -> Next
     }
 }
 
-impl Source<'_> {
+impl Parts<'_> {
     // A cell read, and the line of its answer.
+    #[tactic(auto, using(crate::proofs::Entries::cells_read))]
     pub fn next_cell(&self, cursor: TableData) -> Next
-        ensures { lines_by self.now (Some result) ≡ left_of self.now (State.Cells cursor) }
+        ensures { lines_by self.now (Some result) ≡ left_in self.now (State.Cells cursor) }
     {
         let stepped = table::next(self.layout, self.area, cursor);
         answered(stepped.answer, stepped.cursor)
     }
 
     // The line of a column. After the last one all columns are opened, with the heap on.
+    #[tactic(auto, using(crate::proofs::Entries::column_next, crate::proofs::Entries::columns_refused, crate::proofs::Entries::columns_opened))]
     pub fn next_column(&self, c: usize) -> Next
-        ensures { lines_by self.now (Some result) ≡ left_of self.now (State.Column c) }
+        ensures { lines_by self.now (Some result) ≡ left_in self.now (State.Column c) }
     {
         if c < self.layout.tfields {
             return Next {

@@ -6,14 +6,14 @@ mod pages;
 mod replay;
 mod settings;
 
-ghost use Rattle.std.specs.Prelude.{◌≡◌, ◌+◌, [], length, take};
+ghost use Rattle.std.specs.Prelude.{◌≡◌, ◌≤◌, ◌+◌, [], length, take};
 ghost use Rattle.layout.specs.Layout.{empty_layout};
 ghost use Rattle.bintable.specs.Entry.{entry, entry_of, layout_in};
 ghost use Rattle.ascii.specs.Buffer.{put_in};
 ghost use Rattle.output.specs.Cells.{file_limit, header_of, data_of, cells_lines};
 ghost use Rattle.output.specs.Replay.{replay_lines};
-ghost use Rattle.output.specs.State.{file_left};
-ghost use Rattle.output.specs.Next.{left_of, lines_by};
+ghost use Rattle.output.specs.State.{file_left, left_of};
+ghost use Rattle.output.specs.Next.{left_in, lines_by};
 ghost use Rattle.output.specs.Page.{page_text, page_rest, Whole};
 
 use layout::{BinTable, EMPTY_LAYOUT};
@@ -76,19 +76,28 @@ pub struct Start {
     pub state: State,
 }
 
-// What the lines are made of: a table, with the header of its layout, and a file of steps.
+// What the lines are made of: a file with a table, the table's layout, and a file of steps.
 #[derive(Clone, Copy)]
-struct Source<'a> {
+pub struct Source<'a> {
+    pub file: &'a [u8],
+    pub layout: BinTable,
+    pub steps: &'a [u8],
+}
+
+// The same with the file parted. It is made once a page, so that the header is not looked through for its end at each
+// line.
+#[derive(Clone, Copy)]
+struct Parts<'a> {
     header: &'a [u8],
     layout: BinTable,
     area: &'a [u8],
     steps: &'a [u8],
 }
 
-impl Source<'_> {
+impl Parts<'_> {
     // The next line, none where nothing is left.
     fn next_line(&self, state: State) -> Option<Next>
-        ensures { lines_by self.now result ≡ left_of self.now state }
+        ensures { lines_by self.now result ≡ left_in self.now state }
     {
         match state {
             State::Table => Some(Next {
@@ -112,38 +121,37 @@ impl Source<'_> {
     }
 }
 
-// The next page of a file's lines: as many whole lines as the buffer has room for, the rest of it as it was. Where
-// the buffer is 128 bytes longer than the file there is room for every line, so an empty page is the last.
-pub fn next_page(file: &[u8], layout: BinTable, steps: &[u8], state: State, out: &mut [u8]) -> Page
-    ensures len { result.len ≡ length (page_text (length out.old) (file_left file.now layout steps.now state)) }
-    ensures buffer { out.new ≡ put_in out.old 0
-        (page_text (length out.old) (file_left file.now layout steps.now state)) }
-    ensures state { file_left file.now layout steps.now result.state
-        ≡ page_rest (length out.old) (file_left file.now layout steps.now state) }
-    ensures whole { Whole (length file.now + 128) (length out.old) result.len
-        (file_left file.now layout steps.now state) }
-{
-    let (header, area) = split_file(file);
-    let source = Source {
-        header,
-        layout,
-        area,
-        steps,
-    };
-    source.fill_page(state, out)
+impl Source<'_> {
+    // The next page of the lines: as many whole lines as the buffer has room for, the rest of it as it was. Where the
+    // buffer is 128 bytes longer than the file there is room for every line, so an empty page is the last.
+    pub fn next_page(&self, state: State, out: &mut [u8]) -> Page
+        ensures len { result.len ≡ length (page_text (length out.old) (left_of self.now state)) }
+        ensures buffer { out.new ≡ put_in out.old 0 (page_text (length out.old) (left_of self.now state)) }
+        ensures state { left_of self.now result.state ≡ page_rest (length out.old) (left_of self.now state) }
+        ensures whole { Whole (length self.now.file.now + 128) (length out.old) result.len (left_of self.now state) }
+    {
+        let (header, area) = split_file(self.file);
+        let parts = Parts {
+            header,
+            layout: self.layout,
+            area,
+            steps: self.steps,
+        };
+        parts.fill_page(state, out)
+    }
 }
 
 // The bytes of a file that are looked at.
+#[tactic(auto, using(crate::proofs::Parted::first_part))]
 pub fn first_bytes(file: &[u8]) -> &[u8]
-    ensures { result.now ≡ take file_limit file.now }
+    ensures bytes { result.now ≡ take file_limit file.now }
+    ensures few { length result.now ≤ file_limit }
 {
-    if FILE_LIMIT < file.len() {
-        return &file[..FILE_LIMIT];
-    }
-    file
+    &file[..file.len().min(FILE_LIMIT)]
 }
 
 // The header of a file, through the block that has END, and the data after it.
+#[tactic(auto, using(crate::proofs::Parted::header_inside))]
 fn split_file(file: &[u8]) -> (&[u8], &[u8])
     ensures header { result.0.now ≡ header_of file.now }
     ensures data { result.1.now ≡ data_of file.now }
@@ -208,5 +216,10 @@ pub fn replay_text(file: &[u8], steps: &[u8], out: &mut [u8]) -> usize
         (page_text (length out.old) (replay_lines file.now (take file_limit steps.now))) }
 {
     let Start { layout, state } = replay_start(file, steps);
-    next_page(file, layout, first_bytes(steps), state, out).len
+    let source = Source {
+        file,
+        layout,
+        steps: first_bytes(steps),
+    };
+    source.next_page(state, out).len
 }

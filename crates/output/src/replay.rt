@@ -3,9 +3,9 @@ ghost use Rattle.std.specs.Prelude.{◌≡◌, ◌+◌, ◌≤◌, length, take}
 ghost use Rattle.walk.specs.Step.{row_reply};
 ghost use Rattle.steps.specs.Split.{line_feeds};
 ghost use Rattle.output.specs.State.{stored_by};
-ghost use Rattle.output.specs.Next.{left_of, lines_by, answered, cell_next, seek_next, row_next};
+ghost use Rattle.output.specs.Next.{left_in, lines_by, answered, cell_next, seek_next, row_next};
 
-use crate::{Next, Source, State};
+use crate::{Next, Parts, State};
 use cell::Cell;
 use listing::Line;
 use refusal::Refusal;
@@ -71,6 +71,7 @@ fn row_answered(
 }
 
 // The line at a place of the steps says no step.
+#[tactic(auto, using(crate::proofs::Lines::feeds_before))]
 fn bad_line(steps: &[u8], at: usize) -> Next
     requires { at ≤ length steps.now }
     ensures { result ≡ record { line = Line.BadLine (line_feeds (take at steps.now) + 1); state = State.Done } }
@@ -91,10 +92,10 @@ fn stored(answer: Result<Option<u64>, Refusal>) -> u64
     }
 }
 
-impl Source<'_> {
+impl Parts<'_> {
     // The line at a place of the steps, and the step that it says; none at the end of the steps.
     pub fn next_step(&self, at: usize, cursor: TableData) -> Option<Next>
-        ensures { lines_by self.now result ≡ left_of self.now (State.Step at cursor) }
+        ensures { lines_by self.now result ≡ left_in self.now (State.Step at cursor) }
     {
         if self.steps.len() <= at {
             return None;
@@ -126,14 +127,14 @@ impl Source<'_> {
 
     // The next cell of the list that a row read stored to; after the last one the cursor's place and count. The row is
     // read anew for each cell, since no state can hold the list.
+    #[tactic(auto, using(crate::proofs::Lines::listed_next, crate::proofs::Lines::listed_over))]
     pub fn next_listed(&self, at: usize, reader: TableData, len: usize, k: usize) -> Next
-        ensures { lines_by self.now (Some result) ≡ left_of self.now (State.Listed at reader len k) }
+        ensures { lines_by self.now (Some result) ≡ left_in self.now (State.Listed at reader len k) }
     {
         let blank = cell::blank_cell();
         let read = row::owners::row_cell(self.layout, self.area, reader, blank, len, k);
-        let stepped = read.stepped;
-        let cursor = stepped.cursor;
-        if (k as u64) < stored(stepped.answer) {
+        let Stepped { cursor, answer } = read.stepped;
+        if (k as u64) < stored(answer) {
             return Next {
                 line: Line::Cell(read.cell),
                 state: State::Listed {

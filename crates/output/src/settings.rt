@@ -1,10 +1,10 @@
 // The lines before the first step, and the opening with what they set.
-ghost use Rattle.std.specs.Prelude.{◌≡◌, ℕ, ◌+◌, ◌<◌, ◌^◌, List};
+ghost use Rattle.std.specs.Prelude.{◌≡◌, ℕ, List};
 ghost use Rattle.walk.specs.Step.{open_with, opening_of};
 ghost use Rattle.steps.specs.Split.{lines_of};
 ghost use Rattle.output.specs.State.{left};
 ghost use Rattle.output.specs.Replay.{setting_lines, defaults};
-ghost use Rattle.output.specs.Settings.{columns_in, changed, Read};
+ghost use Rattle.output.specs.Settings.{columns_in, next_settings, Read};
 
 use crate::State;
 use layout::{BinTable, TFIELDS_LIMIT};
@@ -21,13 +21,16 @@ pub struct Settings {
     pub at: usize,
 }
 
-// A command of a line that is n bytes long: the settings after it, none where it is a step or no command, since the
-// lines before the first step are over.
-fn after_command(settings: Settings, command: Option<Command>, n: usize) -> Option<Settings>
-    requires { settings.at + n + 1 < 2 ^ 64 }
-    ensures { result ≡ changed settings command n }
+// The settings after the next line; none where the lines before the first step are over: at the end of the steps, and
+// where the line is a step or no command.
+fn next_settings(steps: &[u8], settings: Settings) -> Option<Settings>
+    ensures { result ≡ next_settings steps.now settings }
 {
-    let (choose, heap) = match command? {
+    if steps.len() <= settings.at {
+        return None;
+    }
+    let line = steps::line_at(steps, settings.at);
+    let (choose, heap) = match steps::parse_command(line)? {
         Command::ChooseAll => (None, settings.heap),
         Command::Choose => (Some(settings.at), settings.heap),
         Command::Heap(on) => (settings.choose, on),
@@ -36,11 +39,12 @@ fn after_command(settings: Settings, command: Option<Command>, n: usize) -> Opti
     Some(Settings {
         choose,
         heap,
-        at: settings.at + n + 1,
+        at: settings.at + line.len() + 1,
     })
 }
 
-// Reads the lines before the first step. Each says where the next begins, so the loop counts no index.
+// Reads the lines before the first step.
+#[tactic(auto, using(crate::proofs::Before::place_next, crate::proofs::Before::reading_next, crate::proofs::Before::reading_over), unfolding(steps::specs::Split::line_feeds))]
 fn read_settings(steps: &[u8]) -> Settings
     ensures { Read steps.now result }
 {
@@ -49,19 +53,14 @@ fn read_settings(steps: &[u8]) -> Settings
         heap: true,
         at: 0,
     };
-    while settings.at < steps.len() {
-        let at = settings.at;
-        let line = steps::line_at(steps, at);
-        let changed = after_command(settings, steps::parse_command(line), line.len());
-        let Some(next) = changed else {
-            return settings;
-        };
+    while let Some(next) = next_settings(steps, settings) {
         settings = next;
     }
     settings
 }
 
 // The opening with what the lines set.
+#[tactic(auto, using(crate::proofs::Columns::columns_placed))]
 fn open(
     layout: BinTable,
     area: &[u8],

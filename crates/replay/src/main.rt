@@ -4,6 +4,8 @@
 
 ghost use Rattle.std.specs.Prelude.{◌≡◌, ◌≤◌, length, take};
 
+use output::{Source, Start};
+
 // The steps are read only if the table is accepted.
 fn read_steps(rt: &HostRuntime, file: &[u8], buffer: &mut [u8]) -> usize
     ensures len { result ≤ length buffer.new }
@@ -22,6 +24,11 @@ fn main(rt: HostRuntime) {
     let mut text = console::file_buffer();
     let m = read_steps(&rt, file, &mut text);
     let steps = &text[..m];
-    let start = output::replay_start(file, steps);
-    console::print_pages(&rt, file, start.layout, steps, start.state);
+    let Start { layout, state } = output::replay_start(file, steps);
+    let source = Source {
+        file,
+        layout,
+        steps,
+    };
+    console::print_pages(&rt, &source, state);
 }

@@ -5,7 +5,7 @@ use Rattle.std.specs.Prelude.{is_some}
 use Rattle.cases.specs.Text.{begins_page}
 use Rattle.ascii.specs.Text.{same}
 use Rattle.ascii.proofs.Parts.{part_from}
-use Rattle.output.specs.State.{file_left}
+use Rattle.output.specs.State.{left_of}
 use Rattle.output.specs.Page.{page_room, page_text}
 use Rattle.output.proofs.Whole.{page_less}
 use Rattle.cases.proofs.Beside.{page_differs, page_inside, page_same, none_left}
@@ -20,7 +20,7 @@ pub returns-in_default : goal.returns-in_default
 returns-in_default c =
     let a = c.args in
     let l = c.loop-page in
-    let ts = file_left a.file.now a.layout a.steps.now l.current in
+    let ts = left_of a.source.now l.current in
     let none = ap is_some c.in_default.is in
     sym
     (sym l.invariant.beside
@@ -37,7 +37,7 @@ pub returns-then-page-eq0 : goal.returns-then-page-eq0
 returns-then-page-eq0 c =
     let a = c.args in
     let l = c.loop-page in
-    let ts = file_left a.file.now a.layout a.steps.now l.current in
+    let ts = left_of a.source.now l.current in
     none_left a.text.now l.at ts l.invariant.inside (c.in-Some.ensures.page.whole (omega (arith, c.requires)) c.if-page-eq0.true)
     ∙ l.invariant.beside
 
@@ -46,7 +46,7 @@ overflow_add-at c =
     let a = c.args in
     let l = c.loop-page in
     let p = c.in-Some.ensures.page in
-    let ts = file_left a.file.now a.layout a.steps.now l.current in
+    let ts = left_of a.source.now l.current in
     let n = c.in-Some.page.len in
     let t = begins a.text.now l.at n ts p.len c.compare_page.ensures.begins (ap is_some c.in-Some.is) in
     omega (arith, page_inside a.text.now l.at page_room n ts p.len l.invariant.inside t)
@@ -55,7 +55,7 @@ pub loop-page-smaller : goal.loop-page-smaller
 loop-page-smaller c =
     let a = c.args in
     let p = c.in-Some.ensures.page in
-    let ts = file_left a.file.now a.layout a.steps.now c.loop-page.current in
+    let ts = left_of a.source.now c.loop-page.current in
     let k = page_less page_room ts (omega (arith, p.len, c.if-page-eq0.false)) in
     omega (arith, ap length p.rest, k)
 
@@ -64,8 +64,8 @@ loop-page-preserved c =
     let a = c.args in
     let l = c.loop-page in
     let p = c.in-Some.ensures.page in
-    let ts = file_left a.file.now a.layout a.steps.now l.current in
-    let us = file_left a.file.now a.layout a.steps.now c.in-Some.page.state in
+    let ts = left_of a.source.now l.current in
+    let us = left_of a.source.now c.in-Some.page.state in
     let n = c.in-Some.page.len in
     let t = begins a.text.now l.at n ts p.len c.compare_page.ensures.begins (ap is_some c.in-Some.is) in record {
       inside = page_inside a.text.now l.at page_room n ts p.len l.invariant.inside t;

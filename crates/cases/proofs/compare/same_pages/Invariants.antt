@@ -2,16 +2,16 @@
 -- number of lines left.
 use Rattle.std.proofs.Common.{◌≡◌, ◌≤◌, length, drop}
 use Rattle.ascii.specs.Text.{same}
-use Rattle.output.specs.State.{file_left}
+use Rattle.output.specs.State.{left_of}
 use Rattle.output.specs.Page.{lines_text}
 use Rattle.cases.proofs.compare.same_pages.Given as goal
 
 abbrev pub invariant-loop-page : goal.invariant-loop-page
 invariant-loop-page l = record {
   inside : l.at ≤ length l.text;
-  beside : same (drop l.at l.text) (lines_text (file_left l.file l.layout l.steps l.current))
-      ≡ same l.text (lines_text (file_left l.file l.layout l.steps l.fn.state));
+  beside : same (drop l.at l.text) (lines_text (left_of l.source l.current))
+      ≡ same l.text (lines_text (left_of l.source l.fn.state));
 }
 
 abbrev pub decreases-loop-page : goal.decreases-loop-page
-decreases-loop-page l = length (file_left l.file l.layout l.steps l.current)
+decreases-loop-page l = length (left_of l.source l.current)

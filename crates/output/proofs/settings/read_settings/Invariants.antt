@@ -3,8 +3,8 @@ use Rattle.std.proofs.Common.{length, ◌-◌}
 use Rattle.output.specs.Settings.{Reading}
 use Rattle.output.proofs.settings.read_settings.Given as goal
 
-abbrev pub invariant-loop-settings : goal.invariant-loop-settings
-invariant-loop-settings l = Reading l.steps l.settings
+abbrev pub invariant-loop-next : goal.invariant-loop-next
+invariant-loop-next l = Reading l.steps l.settings
 
-abbrev pub decreases-loop-settings : goal.decreases-loop-settings
-decreases-loop-settings l = length l.steps - l.settings.at
+abbrev pub decreases-loop-next : goal.decreases-loop-next
+decreases-loop-next l = length l.steps - l.settings.at

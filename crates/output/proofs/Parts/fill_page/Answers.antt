@@ -3,7 +3,7 @@ use Rattle.std.proofs.Common.{◌≡◌, ◌∙◌, ◌+◌, ◌<◌, sym, subst
 use Rattle.listing.specs.Lines.{line_text}
 use Rattle.listing.proofs.Short.{line_some, line_short}
 use Rattle.output.proofs.Filling.{written_to_lem, no_room, Filled, Ended, ends_none, ends_full, more_filled}
-use Rattle.output.proofs.Source.fill_page.Goals as goal
+use Rattle.output.proofs.Parts.fill_page.Goals as goal
 
 module _ (lines now : List (List ℕ)) (out₀ out : List ℕ) (at : ℕ) (f : Filled lines now out₀ out at) where
   -- no line is left

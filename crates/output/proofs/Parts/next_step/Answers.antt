@@ -6,7 +6,7 @@ use Rattle.steps.specs.declared.Command.TheVariants as C
 use Rattle.steps.proofs.Says.{row_few}
 use Rattle.output.specs.Replay.{none}
 use Rattle.output.proofs.Lines.{asked_of, steps_command, steps_none, cell_next_lem, seek_next_lem, row_next_lem}
-use Rattle.output.proofs.Source.next_step.Goals as goal
+use Rattle.output.proofs.Parts.next_step.Goals as goal
 
 pub returns-then-self-at : goal.returns-then-self-at
 returns-then-self-at c =
