@@ -1,23 +1,26 @@
 -- A text beside the lines that are left to print, page by page.
 -- Assumes nothing.
-use Rattle.std.specs.Prelude.{is_some}
+use Rattle.std.specs.Prelude.{is_some, Option, Some, None}
 use Rattle.std.specs.Bool.{then_some}
-use Prim.Native.Nat.{ℕ, ◌+◌, ◌<◌, ◌≤◌}
+use Prim.Native.Nat.{ℕ, ◌+◌, ◌-◌, ◌<◌, ◌≤◌}
 use mathlib.Core.Path.{◌≡◌, refl, sym, ap, subst, ◌∙◌}
 use mathlib.Core.Bool.{Bool, true, false}
-use mathlib.Core.List.{List, [], ◌++◌}
+use mathlib.Core.List.{List, [], ◌∷◌, ◌++◌}
 use native.Mathlib.Omega.{arith}
 use lib.Dec.{eqb}
-use lib.ListN.{length, take, drop, take-append-drop, length-take, length-drop, drop_of_length-le}
-use lib.Seq.{take-append_seam, drop-drop, length-take-le}
-use borrow.Author.Tests.{eqb-true, eqb-false}
+use lib.ListN.{length, take, drop, take-append-drop, length-take}
+use lib.Seq.{take-append_seam, length-take-le}
+use borrow.Author.Tests.{ne_eqb}
 use Rattle.ascii.specs.Text.{same}
 use Rattle.ascii.specs.Buffer.{put_in}
-use Rattle.ascii.proofs.Cases.{either}
 use Rattle.ascii.proofs.Chain.{front}
+use Rattle.ascii.proofs.Parts.{part_from}
 use Rattle.ascii.proofs.Same.{same_true, same_false, same_length, same_not, same_root}
-use Rattle.output.specs.Page.{lines_text, page_text, page_rest}
-use Rattle.output.proofs.Whole.{page_whole, page_length}
+use Rattle.output.specs.Cells.{file_limit}
+use Rattle.output.specs.Page.{page_room, lines_text, page_text, page_rest}
+use Rattle.output.specs.declared.Page.{Page}
+use Rattle.output.proofs.Whole.{page_whole, page_length, page_less}
+use Rattle.cases.specs.Text.{begins_page, IsPage}
 
 -- a page in its buffer: n is its length
 module _ (out next : List ℕ) (lines : List (List ℕ)) (n : ℕ) (e : n ≡ length (page_text (length out) lines)) where
@@ -54,25 +57,35 @@ module _ (x p : List ℕ) where
       same_false x (p ++ t)
       (λ z. same_not (take (length p) x) p e (subst (λ (y : List ℕ). take (length p) y ≡ p) (sym z) (take-append_seam p t)))
 
--- the text x from place `at` on beside the lines ts, n the length of their next page and us the lines after it
-module _ (x : List ℕ) (at room n : ℕ) (ts : List (List ℕ)) (e : n ≡ length (page_text room ts)) where
-  pub page_differs : same (take n (drop at x)) (page_text room ts) ≡ false → same (drop at x) (lines_text ts) ≡ false
-  page_differs d = rw (← page_whole room ts) (differs_within (drop at x) (page_text room ts) (lines_text (page_rest room ts)) (rw e at d))
+-- a text x beside the lines ts, by what `compare_page` says of it, r its answer
+module _ (x : List ℕ) (ts : List (List ℕ)) (r : Option Page) (b : is_some r ≡ begins_page x ts) where
+  pub page_differs : r ≡ None → false ≡ same x (lines_text ts)
+  page_differs e =
+      sym
+      (rw (← page_whole page_room ts)
+      (differs_within x (page_text page_room ts) (lines_text (page_rest page_room ts)) (sym b ∙ rw e)))
 
-  pub page_inside : at ≤ length x → same (take n (drop at x)) (page_text room ts) ≡ true → at + n ≤ length x
-  page_inside h b = omega (arith, e, begins_inside (drop at x) (page_text room ts) (rw e at b), length-drop at x)
+  module _ (p : Page) (e : r ≡ Some p) (m : ℕ) (us : List (List ℕ)) (g : IsPage m ts us p.len) where
+    begun : same (take (length (page_text page_room ts)) x) (page_text page_room ts) ≡ true
+    begun = sym b ∙ rw e
 
-  pub page_same : (us : List (List ℕ)) → us ≡ page_rest room ts → same (take n (drop at x)) (page_text room ts) ≡ true
-      → same (drop at x) (lines_text ts) ≡ same (drop (at + n) x) (lines_text us)
-  page_same us r b =
-      rw (← page_whole room ts, r, e, ← drop-drop (length (page_text room ts)) at x)
-      (same_after (drop at x) (page_text room ts) (lines_text (page_rest room ts)) (rw e at b))
+    pub page_inside : p.len ≤ length x
+    page_inside = omega (arith, g.len, begins_inside x (page_text page_room ts) begun)
 
--- where no line is left, nothing of the text may be
-pub none_left : (x : List ℕ) (at : ℕ) (ts : List (List ℕ)) → at ≤ length x → ts ≡ [] → eqb at (length x) ≡ same (drop at x) (lines_text ts)
-unfolding lines_text same
-none_left x at ts h e =
-    rw e
-    (either (eqb at (length x))
-    (λ t. let over : length x ≤ at = omega (arith, eqb-true at (length x) t) in rw (drop_of_length-le x over) t)
-    (λ t. t ∙ sym (same_length (drop at x) [] (λ z. eqb-false at (length x) t (omega (arith, h, z, length-drop at x))))))
+    pub page_same : same (take (length x - p.len) (drop p.len x)) (lines_text us) ≡ same x (lines_text ts)
+    page_same =
+        rw (part_from x p.len, g.rest, g.len, ← page_whole page_room ts)
+        (sym (same_after x (page_text page_room ts) (lines_text (page_rest page_room ts)) begun))
+
+-- a page that is not empty leaves fewer lines, and an empty one none
+module _ (ts us : List (List ℕ)) (n m : ℕ) where
+  pub page_fewer : IsPage m ts us n → (n ≡ 0 → ⊥) → length us < length ts
+  page_fewer g h = rw g.rest (page_less page_room ts (omega (arith, g.len, h)))
+
+  -- where no line is left, nothing of the text may be
+  pub none_left : IsPage (m + 128) ts us n → m ≤ file_limit → n ≡ 0 → (x : List ℕ) → eqb (length x) 0 ≡ same x (lines_text ts)
+  unfolding lines_text same
+  none_left g h e [] = let z : ts ≡ [] = g.whole (omega (arith, h)) e in rw z
+  none_left g h e (y ∷ ys) =
+      let z : ts ≡ [] = g.whole (omega (arith, h)) e in
+      rw (z, ne_eqb (length (y ∷ ys)) 0 (λ w. absurd (omega (arith, w))))

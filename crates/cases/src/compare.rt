@@ -29,21 +29,22 @@ fn compare_page(source: &Source, state: State, text: &[u8]) -> Option<Page>
 }
 
 // Whether a text is what is left to print: page after page stands in it, and after the last one nothing is left of it.
+#[tactic(auto, using(crate::proofs::Beside::page_differs))]
 fn same_pages(source: &Source, state: State, text: &[u8]) -> bool
     requires { length source.now.file.now ≤ file_limit }
     ensures { result ≡ same text.now (lines_text (left_of source.now state)) }
 {
-    let mut at: usize = 0;
+    let mut rest = text;
     let mut current = state;
     loop {
-        let Some(page) = compare_page(source, current, &text[at..]) else {
+        let Some(page) = compare_page(source, current, rest) else {
             return false;
         };
         // A page is empty where no line is left: its length says so in `output` too.
         if page.len == 0 {
-            return at == text.len();
+            return rest.is_empty();
         }
-        at += page.len;
+        rest = &rest[page.len..];
         current = page.state;
     }
 }
