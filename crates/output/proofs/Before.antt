@@ -25,8 +25,9 @@ use Rattle.steps.specs.Line as S
 use Rattle.steps.proofs.Lines.{line_length, lines_next, lines_none, feeds_next}
 use Rattle.output.specs.Cells.{header_of, data_of}
 use Rattle.output.specs.Replay as R
-use Rattle.output.specs.State.{steps_from}
+use Rattle.output.specs.State.{steps_from, left, file_left}
 use Rattle.output.specs.declared.settings.Settings.{Settings}
+use Rattle.output.specs.declared.State.{State}
 use Rattle.output.specs.Settings.{columns_in, settings_in, changed, next_settings, Read, Reading}
 
 -- where no line is left its number does not matter
@@ -148,6 +149,8 @@ module _ (l : BinTable) (a s : List ℕ) (t : Settings) where
 
 -- ---- the whole
 
-module _ (f s : List ℕ) (l : BinTable) where
-  pub replay_passed : accepted l ≡ entry (header_of f) (data_of f) → R.setting_lines l (data_of f) R.defaults 1 (lines_of s) ≡ R.replay_lines f s
-  replay_passed e = rw (← e)
+-- by what the code has: the data of the file, the steps that are looked at, and the state that is first
+pub replay_left : (f s a t : List ℕ) (l : BinTable) (x : State) → a ≡ data_of f → t ≡ s
+    → ((h : List ℕ) → left h l a t x ≡ R.setting_lines l a R.defaults 1 (lines_of t))
+    → accepted l ≡ entry (header_of f) (data_of f) → file_left f l s x ≡ R.replay_lines f s
+replay_left f s a t l x d e g h = rw (d, e) at (g (header_of f)) ∙ rw (← h)

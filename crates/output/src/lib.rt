@@ -193,6 +193,7 @@ pub fn cells_start(file: &[u8]) -> Start
 }
 
 // The layout of a file's table, and the state in which `replay` starts.
+#[tactic(auto, using(crate::proofs::Before::replay_left))]
 pub fn replay_start(file: &[u8], steps: &[u8]) -> Start
     ensures layout { result.layout ≡ layout_in (entry (header_of file.now) (data_of file.now)) }
     ensures lines { file_left file.now result.layout (take file_limit steps.now) result.state
