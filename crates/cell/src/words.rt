@@ -1,4 +1,5 @@
-// Big-endian numbers of the data area. A byte past the area counts as 0.
+// Big-endian numbers of the data area. A byte past the area counts as 0. Area and place are no struct: each call has
+// another place, and the area goes through as it came.
 ghost use Rattle.std.specs.Prelude.{◌≡◌, ◌+◌, ◌/◌, ◌^◌, bit_and, get_or};
 ghost use Rattle.cell.specs.Item.{word};
 

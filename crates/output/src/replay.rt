@@ -86,10 +86,7 @@ fn bad_line(steps: &[u8], at: usize) -> Next
 fn stored(answer: Result<Option<u64>, Refusal>) -> u64
     ensures { result ≡ stored_by (row_reply answer) }
 {
-    match answer {
-        Ok(Some(cells)) => cells,
-        Ok(None) | Err(_) => 0,
-    }
+    answer.ok().flatten().unwrap_or(0)
 }
 
 impl Parts<'_> {

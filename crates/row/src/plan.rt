@@ -97,10 +97,7 @@ pub fn field_plan(area: &[u8], plan: RowPlan, column: Column, c: usize, skip: u6
 fn is_outside(plan: FieldPlan) -> bool
     ensures { result ≡ is_outside plan }
 {
-    match plan.field {
-        Field::Items { .. } | Field::Descriptor(_) => false,
-        Field::OutsideHeap => 0 < plan.n,
-    }
+    matches!(plan.field, Field::OutsideHeap) && 0 < plan.n
 }
 
 // The plan of a row that goes over all columns.

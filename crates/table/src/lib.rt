@@ -1,5 +1,6 @@
 // Reading a table by a cursor: opening, cell reads and seeks. The cursor goes in by value and comes back beside the
-// answer.
+// answer. Layout, area and cursor are no struct: a cursor is plain data that may be brought to any table, and each call
+// refuses what does not belong together.
 #![tactic(auto)]
 
 mod belong;

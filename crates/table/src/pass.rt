@@ -107,10 +107,7 @@ pub fn in_order(column: Column, at: u64) -> bool
 fn no_descriptor(column: Column) -> bool
     ensures { result ≡ no_descriptor column.form column.count }
 {
-    match column.form {
-        TFormType::Items(_) => true,
-        TFormType::P(_) | TFormType::Q(_) => column.count == 0,
-    }
+    matches!(column.form, TFormType::Items(_)) || column.count == 0
 }
 
 // Whether a column is in order and, if it is chosen, holds no descriptor.
