@@ -20,17 +20,17 @@ fn print_page(rt: &HostRuntime, source: &Source, state: State) -> Page
 }
 
 // Prints one page after the other, until nothing is left.
-#[tactic(auto, using(output::proofs::Whole::page_falls, output::proofs::Whole::rest_none))]
+#[tactic(auto, using(output::proofs::Whole::rest_none))]
 pub fn print_rest(rt: &HostRuntime, source: &Source, state: State) -> State
     requires { length source.now.file.now ≤ file_limit }
     ensures { left_of source.now result ≡ [] }
 {
     let mut current = state;
-    let mut len: usize = 1;
-    while 0 < len {
+    loop {
         let page = print_page(rt, source, current);
-        len = page.len;
+        if page.len == 0 {
+            return page.state;
+        }
         current = page.state;
     }
-    current
 }
