@@ -98,7 +98,7 @@ impl TableRow<'_> {
 }
 
 // How many entries the field of a column at a place has. Where `column_size` reads the field itself, each column is
-// copied for it, and cell reads of 41 columns take 50 % more instructions.
+// copied for it, and cell reads of 41 columns take 31 % more instructions.
 fn field_entries(area: &[u8], at: u64, column: Column, heap: &Heap) -> u64
     ensures { result ≡ size_of (field area.now at column heap.now.followed heap.now.start heap.now.end) }
 {
