@@ -1,12 +1,12 @@
 // The columns of a header, and the layout.
 ghost use Rattle.std.specs.Prelude.{◌≡◌, cond, ◌++◌, ℕ, ◌+◌, ◌-◌, ◌≤◌, ◌<◌, ◌^◌, eqb, leb, length, replicate, IfOk};
 ghost use Rattle.card.specs.declared.Value.TheVariants.{String};
-ghost use Rattle.keyword.specs.Names.{column_slots};
+ghost use Rattle.keyword.specs.Names.{column_slots, numeral, root_text};
 ghost use Rattle.refusal.specs.Refusal.{accepted, refused, before, outcome_of};
-ghost use Rattle.header.specs.Checks.{index_by, checked};
+ghost use Rattle.header.specs.Checks.{record_of, checked};
 ghost use Rattle.layout.specs.Layout.{tfields_limit, no_column, row_bytes};
 ghost use Rattle.tform.specs.declared.TForm.{TForm};
-ghost use Rattle.bintable.specs.Checks.{size_for, tform_of, ttype_of, check8};
+ghost use Rattle.bintable.specs.Checks.{size_for, check8};
 ghost use Rattle.layout.specs.declared.BinTable.{BinTable};
 ghost use Rattle.layout.specs.declared.Column.{Column};
 ghost use Rattle.bintable.specs.Entry.{column_check, column_checks, name_in, theap_in, column_at};
@@ -15,7 +15,7 @@ ghost use Rattle.bintable.specs.Entry.{columns_from, nine_checks, layout_of, che
 use crate::Indexed;
 use crate::record::KeywordRecord;
 use card::Value;
-use keyword::Keyword;
+use keyword::{Keyword, Root};
 use layout::{BinTable, Column, NO_COLUMN, Name, TFIELDS_LIMIT};
 use refusal::Refusal;
 use tform::TForm;
@@ -80,23 +80,13 @@ fn check10(size: u64, len: usize) -> Result<(), Refusal>
 }
 
 impl<'a> Indexed<'a> {
-    // The record of TFORMn for column i, from 0, and that of TTYPEn.
-    #[tactic(auto, using(crate::proofs::Index::form_name))]
-    fn form_record(&self, i: usize) -> KeywordRecord<'a>
+    // The record that a root has for column i, from 0.
+    fn column_record(&self, root: Root, i: usize) -> KeywordRecord<'a>
         requires { i < column_slots }
         ensures header { result.header.now ≡ self.now.header.now }
-        ensures number { result.number ≡ tform_of self.now.header.now (i + 1) }
+        ensures number { result.number ≡ record_of self.now.header.now (root_text root ++ numeral (i + 1)) }
     {
-        self.record(keyword::TFORM1 + i)
-    }
-
-    #[tactic(auto, using(crate::proofs::Index::type_name))]
-    fn name_record(&self, i: usize) -> KeywordRecord<'a>
-        requires { i < column_slots }
-        ensures header { result.header.now ≡ self.now.header.now }
-        ensures number { result.number ≡ ttype_of self.now.header.now (i + 1) }
-    {
-        self.record(keyword::TTYPE1 + i)
+        self.record(root.first_slot() + i)
     }
 
     // Column i, from 0, which starts at byte `start` of a row.
@@ -106,8 +96,8 @@ impl<'a> Indexed<'a> {
         ensures check { outcome_of result ≡ column_check self.now.header.now (i + 1) }
         ensures column { IfOk result (λ (c : Column). c ≡ column_at self.now.header.now (i + 1) start) }
     {
-        let form = self.form_record(i);
-        let name = self.name_record(i);
+        let form = self.column_record(Root::Tform, i);
+        let name = self.column_record(Root::Ttype, i);
         form.check4(i + 1)?;
         form.check5(form.is_string())?;
         let tform = check8(i + 1, tform::parse_tform(form.text()))?;

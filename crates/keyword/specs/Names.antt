@@ -5,6 +5,8 @@ use mathlib.Core.List.{List, [], ◌∷◌, ◌++◌, map, flat_map}
 use Rattle.ascii.specs.Text.{bytes, same}
 use Rattle.keyword.specs.declared.Keyword.{Keyword}
 use Rattle.keyword.specs.declared.Keyword.TheVariants as K
+use Rattle.keyword.specs.declared.Root.{Root}
+use Rattle.keyword.specs.declared.Root.TheVariants as R
 
 -- count numbers from n on
 unfoldable pub range : ℕ → ℕ → List ℕ
@@ -57,6 +59,11 @@ other_roots = []
 
 abbrev pub roots : List (List ℕ)
 roots = once_roots ++ other_roots
+
+-- the text of each
+abbrev pub root_text : Root → List ℕ
+root_text R.Tform = bytes "TFORM"
+root_text R.Ttype = bytes "TTYPE"
 
 -- the single names, and these roots with each n up to `count`
 abbrev pub names_up_to : ℕ → List (List ℕ) → List (List ℕ)

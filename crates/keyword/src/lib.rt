@@ -1,10 +1,10 @@
 // The used names of a header and their places (docs/FORMAT.md, section 4).
 #![tactic(auto)]
 
-ghost use Rattle.std.specs.Prelude.{◌≡◌, [], cond, ◌+◌, ◌*◌, ◌<◌, ltb, length, take, get_or};
+ghost use Rattle.std.specs.Prelude.{ℕ, ◌≡◌, [], ◌++◌, cond, ◌+◌, ◌*◌, ◌≤◌, ◌<◌, ltb, length, take, get_or};
 ghost use mathlib.Core.List.{map};
 ghost use Rattle.keyword.specs.Names.{index_limit, column_slots, once_roots, roots, slot_names, once_names};
-ghost use Rattle.keyword.specs.Names.{position, further, single, numeral, range, text_of};
+ghost use Rattle.keyword.specs.Names.{position, further, single, numeral, range, text_of, root_text};
 
 // Where a name stands: its slot, and its place among the names that must not stand twice (specs/Names).
 #[derive(Clone, Copy)]
@@ -61,18 +61,31 @@ const SINGLE_NAMES: [&[u8]; SINGLE] = [
     b"THEAP",
 ];
 
-// The roots of the numbered names, and how long each is.
+// The texts of the roots of the numbered names, and how long each is.
 const ROOTS: [&[u8]; 2] = [b"TFORM", b"TTYPE"];
 
 const ROOT_BYTES: usize = 5;
 
-// The slots of TFORM1 and TTYPE1; those of n up to COLUMN_SLOTS follow.
-pub const TFORM1: usize = SINGLE;
+// The roots of the numbered names, in the order of their slots, which come after those of the others.
+#[derive(Clone, Copy)]
+pub enum Root {
+    Tform,
+    Ttype,
+}
 
-pub const TTYPE1: usize = TFORM1 + COLUMN_SLOTS;
+impl Root {
+    // The slot of the name with n = 1; those of n up to COLUMN_SLOTS follow.
+    pub fn first_slot(self) -> usize
+        ensures names { (k : ℕ) → k < column_slots
+            → get_or slot_names (result + k) [] ≡ root_text self ++ numeral (k + 1) }
+        ensures inside { result + column_slots ≤ length slot_names }
+    {
+        SINGLE + self as usize * COLUMN_SLOTS
+    }
+}
 
 // How many slots there are.
-pub const SLOTS: usize = TTYPE1 + COLUMN_SLOTS;
+pub const SLOTS: usize = SINGLE + 2 * COLUMN_SLOTS;
 
 // How many roots, from the front, have names that must not stand twice, and how many such names there are.
 const ONCE_ROOTS: usize = 2;

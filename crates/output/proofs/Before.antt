@@ -149,8 +149,12 @@ module _ (l : BinTable) (a s : List ℕ) (t : Settings) where
 
 -- ---- the whole
 
+pub replay_passed : (f s : List ℕ) (l : BinTable) → accepted l ≡ entry (header_of f) (data_of f)
+    → R.setting_lines l (data_of f) R.defaults 1 (lines_of s) ≡ R.replay_lines f s
+replay_passed f s l e = rw (← e)
+
 -- by what the code has: the data of the file, the steps that are looked at, and the state that is first
 pub replay_left : (f s a t : List ℕ) (l : BinTable) (x : State) → a ≡ data_of f → t ≡ s
     → ((h : List ℕ) → left h l a t x ≡ R.setting_lines l a R.defaults 1 (lines_of t))
     → accepted l ≡ entry (header_of f) (data_of f) → file_left f l s x ≡ R.replay_lines f s
-replay_left f s a t l x d e g h = rw (d, e) at (g (header_of f)) ∙ rw (← h)
+replay_left f s a t l x d e g h = rw (d, e) at (g (header_of f)) ∙ replay_passed f s l h

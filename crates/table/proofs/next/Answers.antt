@@ -53,12 +53,6 @@ bounds-layout-c c =
     let y = ready_says l a u (sym c.ready.ensures ∙ c.if-ready.true) in
     omega (arith, ready_columns l a u.choice u.row y)
 
-pub chosen-is_chosen-requires : goal.chosen-is_chosen-requires
-chosen-is_chosen-requires c =
-    let l = c.args.layout in let a = c.args.area.now in let u = c.args.cursor in
-    let y = ready_says l a u (sym c.ready.ensures ∙ c.if-ready.true) in
-    omega (arith, ready_columns l a u.choice u.row y)
-
 pub overflow_add-start : goal.overflow_add-start
 overflow_add-start c =
     let l = c.args.layout in let a = c.args.area.now in let u = c.args.cursor in

@@ -1,6 +1,5 @@
 -- `fill_row` meets its contract: each turn stores the field of a column, and passes over the columns up to the next that is chosen.
 use Rattle.std.proofs.Common.{ℕ, ◌≡◌, ◌+◌, ◌-◌, List, suc, refl, sym, ◌∙◌, arith}
-use Rattle.std.proofs.Math.Nat.{sub-zero}
 use Rattle.layout.specs.declared.Column.{Column}
 use Rattle.cell.specs.declared.Cell.{Cell}
 use Rattle.table.specs.Scan.{next_chosen}
@@ -28,16 +27,6 @@ module _ (columns : List Column) (a : List ℕ) (p : RowPlan) (next c skip at : 
       → filled columns a p (suc c) (p.tfields - suc c) f.skip (at + f.n) zs ≡ filled columns a p next (p.tfields - next) skip at ys
   stored ys zs f e s =
       rw (s, e) (sym (filled_next columns a p p.tfields skip at next c g.is ys ∙ rw one_less (filled_more columns a p c (p.tfields - suc c) skip at ys)))
-
-pub loop-c-init : goal.loop-c-init
-loop-c-init c =
-    let p = c.args.plan in
-    rw (c.into_iter-c-iterator.ensures.into_iter_gives, c.chosen_columns-c-items.ensures, sub-zero p.tfields)
-    record {
-      over = record { choice_is = refl; columns = refl };
-      same = refl;
-      fits = c.requires.1;
-    }
 
 pub field_plan-planned-requires : goal.field_plan-planned-requires
 field_plan-planned-requires c =

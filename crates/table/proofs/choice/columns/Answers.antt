@@ -1,6 +1,6 @@
 -- `columns` meets its contract: each turn puts one bit below those that the choice has, set if the column is wanted.
 use Rattle.std.proofs.Common.{◌≡◌, ℕ, Bool, true, false, cond, suc, ◌+◌, ◌-◌, ◌*◌, ◌<◌, ◌≤◌, ◌^◌, sym, ◌∙◌, refl, arith}
-use native.Mathlib.Nat.{lt_of_lt_of_le, sub-zero, pow-zero, pow-succ'}
+use native.Mathlib.Nat.{lt_of_lt_of_le, pow-zero, pow-succ'}
 use lib.Pow.{pow_mono}
 use mir.Val.{bool_byte}
 use Rattle.walk.proofs.Choice.{choice_back, choice_end}
@@ -34,17 +34,6 @@ loop-c-init g c =
       so_far = λ s w. sym (choice_end s c.args.tfields);
     }
 
-pub overflow_mul-choice : goal.overflow_mul-choice
-overflow_mul-choice g c =
-    let r = c.loop-c.invariant in
-    omega (arith, fits c.args.tfields c.loop-c.c c.loop-c.choice 0 c.loop-c-test.true r.within r.room (omega arith) c.requires.few)
-
-pub overflow_add-choice : goal.overflow_add-choice
-overflow_add-choice g c =
-    let r = c.loop-c.invariant in
-    let few : c.from.result ≤ 1 = rw c.from.ensures (bit_few c.wanted.result) in
-    omega (arith, fits c.args.tfields c.loop-c.c c.loop-c.choice c.from.result c.loop-c-test.true r.within r.room few c.requires.few)
-
 pub loop-c-preserved : goal.loop-c-preserved
 loop-c-preserved g c =
     let r = c.loop-c.invariant in
@@ -57,9 +46,3 @@ loop-c-preserved g c =
           rw (choice_back s c.args.tfields c.loop-c.c c.loop-c-test.true r.within, ← w (c.loop-c.c - 1) c.wanted.result (omega arith) c.wanted.ensures)
           (omega (arith, bit, r.so_far s w));
     }
-
-pub returns : goal.returns
-returns g c =
-    λ s w.
-    let e : c.loop-c.c ≡ 0 = omega arith in
-    rw (e, sub-zero c.args.tfields) at (c.loop-c.invariant.so_far s (λ i is h p. w i is h p))
