@@ -4,7 +4,8 @@
 usage: python3 tools/design_places.py [--point N] [--counts] [--library FOLDER]     at the repository's top
 
 Points 1 to 7 are looked for in crates/*/src, point 8 in crates/*/proofs. FOLDER is the toolchain's folder that has
-std, whose lemmas point 8 looks through; where it is not given, that part is left out. --counts prints counts alone.
+std and core, whose lemmas point 8 looks through; where it is not given, that part is left out. --counts prints counts
+alone.
 
 A place is found by its text, so some kinds list more than a reader would call old; docs/DESIGN-PASS.md says which.
 A line is: point and kind, file:line, the name there, a few words.
@@ -446,6 +447,8 @@ class Search:
             for file in glob.glob(os.path.join(library, folder, "**/*.antt"), recursive=True):
                 with open(file, encoding="utf-8") as f:
                     std.update((said, name) for name, said, _ in lemmas(f.read()))
+        if library and not std:
+            raise SystemExit(f"no lemmas below '{library}': give the folder that has std and core")
         answers = collections.defaultdict(list)
         for crate in sorted(os.listdir("crates")):
             own = {f: t for f, t in texts.items() if f.startswith(f"crates/{crate}/proofs/")}
@@ -464,8 +467,11 @@ class Search:
                 if file.endswith(("/Lib.antt", "/Invariants.antt")):
                     continue
                 module = file[:-5].split("/proofs/")[1].replace("/", ".")
-                if not any(re.search(rf"\b{crate}(?:\.|::)proofs(?:\.|::){module.replace('.', '(?:[.]|::)')}\b", t)
-                           for t in [code, *(t for f, t in texts.items() if f != file)]):
+                path = module.replace(".", "(?:[.]|::)")
+                if not any(re.search(rf"\b{crate}(?:\.|::)proofs(?:\.|::){path}\b", t)
+                           for t in [code, *(t for f, t in texts.items() if f != file)]) and not any(
+                               re.search(rf"\bcrate::proofs::{path}\b", self.texts[f])
+                               for f in self.texts if f.startswith(f"crates/{crate}/src/")):
                     told = [name for name, _, _ in lemmas(text) if name in pages]
                     self.add("8c", file, 1, module, "a page names " + ", ".join(told) if told else "")
                 for name, said, at in lemmas(text):
@@ -498,7 +504,8 @@ def main():
         if args.point and kind[0] != str(args.point):
             continue
         crates = collections.Counter(p[1].split("/")[1] for p in places if p[0] == kind)
-        print(f"{kind} {words}: {sum(crates.values())}")
+        left_out = kind == "8d" and not args.library
+        print(f"{kind} {words}: {'left out, no --library' if left_out else sum(crates.values())}")
         if crates:
             print("   " + ", ".join(f"{crate} {n}" for crate, n in sorted(crates.items())))
 
