@@ -1,17 +1,16 @@
 -- The part of a header that is a name, and the columns of a layout that have names.
 -- Assumes nothing.
-use Rattle.std.specs.Prelude.{Option, Some, None, MatchOption, unwrap_or}
+use Rattle.std.specs.Prelude.{Option, Some, None, MatchOption, HoldsAt, unwrap_or, option_copied}
 use denote.Ref.{Bor}
-use mathlib.Core.Logic.{◌⊎◌, ⊎_elim}
 use mathlib.Core.Path.{◌≡◌, refl, ap, ◌∙◌}
-use mathlib.Core.Bool.{true}
+use mathlib.Core.Bool.{Bool, true, false, cond}
 use mathlib.Core.List.{List, []}
-use Prim.Native.Nat.{ℕ, ◌+◌, ◌-◌, ◌≤◌, ◌<◌}
+use Prim.Native.Nat.{ℕ, ◌≤◌, ◌<◌}
 use native.Mathlib.Omega.{arith}
 use lib.Dec.{ltb}
-use lib.ListN.{length, get_or, take, drop, get_or-eq_default, length-take}
+use lib.ListN.{length, get_or, get_or-eq_default, length-take}
 use lib.Seq.{get_or-take}
-use borrow.Author.Tests.{le-leb, lt-leb, lt-ltb, le-ltb, ltb-true, ltb-false}
+use borrow.Author.Tests.{lt-ltb, le-ltb, ltb-true, ltb-false}
 use Rattle.ascii.proofs.Cases.{either}
 use Rattle.layout.specs.declared.Column.{Column}
 use Rattle.layout.specs.declared.Name.{Name}
@@ -21,25 +20,6 @@ use Rattle.layout.specs.Names.{in_header, stretch_of, part_of, column_name, has_
 use Rattle.layout.proofs.First.{first_inside}
 
 module _ (h : List ℕ) where
-  pub part_missing : [] ≡ part_of h None
-  unfolding part_of
-  part_missing = refl
-
-  pub part_short : (a n : ℕ) → length h < a + n → [] ≡ part_of h (Some (record { start = a; len = n }))
-  unfolding part_of
-  part_short a n l = rw (lt-leb (a + n) (length h) l)
-
-  pub part_whole : (a n : ℕ) → a + n ≤ length h → take (a + n - a) (drop a h) ≡ part_of h (Some (record { start = a; len = n }))
-  unfolding part_of
-  part_whole a n l = let e : a + n - a ≡ n = omega arith in rw (e, le-leb (a + n) (length h) l)
-
-  -- what `get` gives, or nothing
-  pub part_got : (a n : ℕ) (r : Option (Bor (List ℕ))) (nothing : Bor (List ℕ)) → nothing.now ≡ []
-      → MatchOption r ((a + n < a) ⊎ (length h < a + n)) (λ x. (a ≤ a + n) × (a + n ≤ length h) × (x.now ≡ take (a + n - a) (drop a h)) × (length x.now + a ≡ a + n))
-      → (unwrap_or r nothing).now ≡ part_of h (Some (record { start = a; len = n }))
-  part_got a n None nothing e m = e ∙ ⊎_elim (λ p. absurd (omega arith)) (λ p. part_short a n p) m
-  part_got a n (Some x) nothing e m = m.2 ∙ part_whole a n m.1
-
   -- a name that is reached is its part
   pub part_in_header : (s : Option Name) → in_header h s ≡ true → part_of h s ≡ stretch_of h s
   unfolding part_of
@@ -73,6 +53,24 @@ module _ (h : List ℕ) (l : BinTable) (c : ℕ) where
       either (ltb c l.tfields)
       (λ t. name_past h l c (omega (arith, p, length-take l.tfields l.columns, ltb-true c l.tfields t)))
       (λ t. name_over h l c (ltb-false c l.tfields t))
+
+  -- what is read of the column that is looked up
+  pub name_read : {P : Bor Column → Type 0} (r : Option (Bor Column)) (part : Option (Bor (List ℕ))) (nothing : Bor (List ℕ)) → nothing.now ≡ []
+      → MatchOption r (length (columns_of l) ≤ c) (λ x. (c < length (columns_of l)) × HoldsAt (λ y. x.now ≡ y) (columns_of l) c)
+      → MatchOption r (part ≡ None) P
+      → ((x : Bor Column) → P x → option_copied part ≡ cond (in_header h x.now.name) (Some (stretch_of h x.now.name)) None)
+      → (unwrap_or part nothing).now ≡ column_name h l c
+  unfolding part_of
+  name_read None part nothing e m g k = rw g (e ∙ name_missing m)
+  name_read (Some x) part nothing e m g k =
+      copied part (in_header h x.now.name) _ nothing e (k x g) ∙ name_found x.now m.0 (m.1 no_column)
+    where
+      copied : (part : Option (Bor (List ℕ))) (t : Bool) (s : List ℕ) (nothing : Bor (List ℕ)) → nothing.now ≡ []
+          → option_copied part ≡ cond t (Some s) None → (unwrap_or part nothing).now ≡ cond t s []
+      copied None true s nothing e g = cc
+      copied None false s nothing e g = e
+      copied (Some y) true s nothing e g = cc
+      copied (Some y) false s nothing e g = cc
 
 -- a column that is found is one of the layout's
 pub found_inside : (h : List ℕ) (l : BinTable) (sought : List ℕ) (c : ℕ) → find_name h l sought ≡ Some c → (c < l.tfields) × (c < length l.columns)

@@ -91,10 +91,10 @@ fn columns(layout: &BinTable) -> &[Column]
 pub fn column_name(header: &[u8], layout: BinTable, column: usize) -> &[u8]
     ensures { result.now ≡ column_name header.now layout column }
 {
-    match columns(&layout).get(column) {
-        Some(found) => ttype::part(header, found.name),
-        None => &[],
-    }
+    columns(&layout)
+        .get(column)
+        .and_then(|found| ttype::part(header, found.name))
+        .unwrap_or(&[])
 }
 
 // The first column that has this name, in either case, two quotes of the header counted as one.

@@ -1,5 +1,5 @@
 // The counts and starts of the columns of a layout, which anybody can make.
-ghost use Rattle.std.specs.Prelude.{◌≡◌, ◌≤◌};
+ghost use Rattle.std.specs.Prelude.{◌≡◌};
 ghost use Rattle.layout.specs.Layout.{columns_ok, columns_of};
 
 use super::BinTable;
@@ -7,11 +7,10 @@ use super::BinTable;
 // Whether each count is within its limit, each column starts where the one before ends, and the last ends with the
 // row.
 pub fn columns_ok(layout: BinTable) -> bool
-    requires { layout.tfields ≤ 64 }
     ensures { result ≡ columns_ok layout.naxis1 0 (columns_of layout) }
 {
     let mut at: u64 = 0;
-    for column in &layout.columns[..layout.tfields] {
+    for column in super::columns(&layout) {
         if !tform::count_ok(column.form, column.count) {
             return false;
         }

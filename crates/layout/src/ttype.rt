@@ -1,31 +1,18 @@
 // The names of columns, in a header that may be another than the one the layout was made from.
-ghost use Rattle.std.specs.Prelude.{◌≡◌, ◌&&◌, ◌∷◌};
-ghost use Rattle.layout.specs.Names.{undoubled, in_header, stretch_of, part_of, alike, same_name};
+ghost use Rattle.std.specs.Prelude.{◌≡◌, ◌&&◌, ◌∷◌, cond};
+ghost use Rattle.std.specs.Option.{option_copied};
+ghost use Rattle.layout.specs.Names.{undoubled, in_header, stretch_of, alike, same_name};
 
 use super::Name;
 
-// The part of the header that is the name.
-pub fn part(header: &[u8], name: Option<Name>) -> &[u8]
-    ensures { result.now ≡ part_of header.now name }
+// The part of the header that is the name. None where there is no name, or the header is too short for it.
+pub fn part(header: &[u8], name: Option<Name>) -> Option<&[u8]>
+    ensures { option_copied result ≡ cond (in_header header.now name) (Some (stretch_of header.now name)) None }
 {
-    match name {
-        None => &[],
-        Some(Name { start, len }) => {
-            let from = start as usize;
-            let to = from + len as usize;
-            header.get(from..to).unwrap_or(&[])
-        }
-    }
-}
-
-// Whether there is a name, and the header is long enough for it.
-fn in_header(header: &[u8], name: Option<Name>) -> bool
-    ensures { result ≡ in_header header.now name }
-{
-    match name {
-        None => false,
-        Some(Name { start, len }) => start as usize + len as usize <= header.len(),
-    }
+    let Name { start, len } = name?;
+    let from = start as usize;
+    let to = from + len as usize;
+    header.get(from..to)
 }
 
 // What is left of a name after a byte, where two quotes count as one.
@@ -38,7 +25,8 @@ fn past_quote(byte: u8, after: &[u8]) -> &[u8]
     after.strip_prefix(b"'").unwrap_or(after)
 }
 
-// Whether two bytes are the same, or the same letter in two cases. Equal bytes are told at once, for speed.
+// Whether two bytes are the same, or the same letter in two cases. Equal bytes are told at once, for speed
+// (docs/SPEED.md).
 #[tactic(auto, using(crate::proofs::Alike::alike_ascii))]
 fn alike(a: u8, b: u8) -> bool
     ensures { result ≡ alike a b }
@@ -67,5 +55,5 @@ fn same_name(part: &[u8], sought: &[u8]) -> bool
 pub fn has_name(header: &[u8], name: Option<Name>, sought: &[u8]) -> bool
     ensures { result ≡ (in_header header.now name && same_name (stretch_of header.now name) sought.now) }
 {
-    in_header(header, name) && same_name(part(header, name), sought)
+    part(header, name).is_some_and(|own| same_name(own, sought))
 }

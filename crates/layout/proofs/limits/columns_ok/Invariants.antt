@@ -6,4 +6,4 @@ use Rattle.layout.proofs.limits.columns_ok.Given as goal
 abbrev pub invariant-loop-column : goal.invariant-loop-column
 invariant-loop-column l =
     (l.at ≤ l.column-index * 134217728)
-    × (columns_ok l.fn.layout.naxis1 0 (columns_of l.fn.layout) ≡ columns_ok l.fn.layout.naxis1 l.at (drop l.column-index (columns_of l.fn.layout)))
+    × (columns_ok l.fn.layout.naxis1 0 (columns_of l.fn.layout) ≡ columns_ok l.fn.layout.naxis1 l.at (drop l.column-index l.column-items))
