@@ -1,21 +1,15 @@
 -- The decimal text of a number is read back as that number.
 -- Assumes nothing.
-use Prim.Native.Nat.{ℕ, zero, suc, ◌+◌, ◌-◌, ◌*◌, ◌/◌, ◌%◌, ◌^◌, ◌<◌}
-use mathlib.Core.Path.{◌≡◌, refl, ◌∙◌}
-use mathlib.Core.List.{List, [], ◌∷◌, ◌++◌}
+use Prim.Native.Nat.{ℕ, zero, suc, ◌+◌, ◌*◌, ◌/◌, ◌%◌, ◌^◌, ◌<◌}
+use mathlib.Core.Path.{◌≡◌, ◌∙◌}
+use mathlib.Core.List.{List}
 use native.Mathlib.Omega.{arith}
 use native.Mathlib.Numerals.{add-one}
 use lib.Dec.{ltb}
 use Rattle.ascii.specs.Text.{decimal}
 use Rattle.ascii.proofs.Cases.{by_test}
-use Rattle.ascii.proofs.Decimal.{ten_next}
+use Rattle.ascii.proofs.Decimal.{snoc, ten_next}
 use Rattle.ascii.specs.Number.{decimal_in}
-
--- one digit more
-last_digit : (m b : ℕ) (s : List ℕ) → decimal m (s ++ (b ∷ [])) ≡ decimal m s * 10 + (b - 48)
-unfolding decimal
-last_digit m b [] = refl
-last_digit m b (a ∷ s) = last_digit (m * 10 + (a - 48)) b s
 
 pub decimal_back : (k n : ℕ) → n < 10 ^ k → decimal 0 (decimal_in k n) ≡ n
 unfolding decimal decimal_in
@@ -26,4 +20,4 @@ decimal_back (suc k) n h =
     (λ t.
     let e : 10 ^ suc k ≡ 10 ^ k * 10 = rw (← add-one k) (ten_next k) in
     let q : n / 10 < 10 ^ k = omega (arith, h, e) in
-    last_digit 0 (48 + n % 10) (decimal_in k (n / 10)) ∙ rw (decimal_back k (n / 10) q) (omega arith))
+    snoc 0 (decimal_in k (n / 10)) (48 + n % 10) ∙ rw (decimal_back k (n / 10) q) (omega arith))

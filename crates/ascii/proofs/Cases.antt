@@ -1,9 +1,12 @@
 -- Going by the cases of a test inside a statement, with what the test says at hand in each case.
 -- Assumes nothing.
+use Rattle.std.specs.Prelude.{Option, Some, None}
 use mathlib.Core.Path.{◌≡◌, refl}
-use mathlib.Core.Bool.{Bool, true, false, false≢true, ◌&&◌, cond}
+use mathlib.Core.Bool.{Bool, true, false, cond}
+-- both halves of a test that holds
+pub use Rattle.std.proofs.lemmas.Bool.{and_parts as both}
 
--- P of a choice by the test t
+-- P of a choice by the test t. The library's `cond_both` wants both values written out too.
 pub by_test {ℓ} : {A : Type ℓ} (P : A → Type 0) (t : Bool) {x y : A} → (t ≡ true → P x) → (t ≡ false → P y) → P (cond t x y)
 by_test P true f g = f refl
 by_test P false f g = g refl
@@ -13,8 +16,7 @@ pub either {ℓ} : {P : Type ℓ} (t : Bool) → (t ≡ true → P) → (t ≡ f
 either true f g = f refl
 either false f g = g refl
 
--- both halves of a test that holds
-pub both : (t u : Bool) → (t && u) ≡ true → (t ≡ true) × (u ≡ true)
-both true true e = (refl, refl)
-both true false e = absurd (false≢true e)
-both false u e = absurd (false≢true e)
+-- an option that has no value
+pub no_value : {A : Type 0} (f : Option A) → ((x : A) → f ≡ Some x → ⊥) → f ≡ None
+no_value None h = refl
+no_value (Some x) h = absurd (h x refl)

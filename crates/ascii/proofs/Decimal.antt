@@ -13,7 +13,8 @@ use borrow.Author.Tests.{leb-true, le-leb}
 use Rattle.ascii.specs.Text.{decimal, digit}
 use Rattle.ascii.proofs.Cases.{both}
 
-snoc : (n : ℕ) (xs : List ℕ) (x : ℕ) → decimal n (xs ++ (x ∷ [])) ≡ decimal n xs * 10 + (x - 48)
+-- one digit more
+pub snoc : (n : ℕ) (xs : List ℕ) (x : ℕ) → decimal n (xs ++ (x ∷ [])) ≡ decimal n xs * 10 + (x - 48)
 unfolding decimal
 snoc n [] x = refl
 snoc n (b ∷ bs) x = snoc (n * 10 + (b - 48)) bs x

@@ -1,12 +1,11 @@
 -- The length of a number as text, and texts that are put one after the other into a buffer.
 -- Assumes nothing.
-use Prim.Native.Nat.{ℕ, zero, suc, ◌+◌, ◌-◌, ◌/◌, ◌≤◌, ◌<◌}
+use Prim.Native.Nat.{ℕ, zero, suc, ◌+◌, ◌-◌, ◌/◌, ◌≤◌}
 use mathlib.Core.Path.{◌≡◌, refl, ap, sym, ◌∙◌}
-use mathlib.Core.List.{List, [], ◌∷◌, ◌++◌, append_assoc}
-use native.Mathlib.Numerals.{add-one}
+use mathlib.Core.List.{List, ◌++◌, append_assoc}
 use native.Mathlib.Omega.{arith}
-use lib.ListN.{length, take, drop, set, length-append, length-drop}
-use lib.Seq.{take_at, drop_at, drop-drop, length-take-le, set_split}
+use lib.ListN.{length, take, drop, length-append, length-drop}
+use lib.Seq.{take_at, drop_at, drop-drop, length-take-le}
 use lib.Dec.{ltb}
 use borrow.Rule.Slice.PartMut.{put_mid}
 use Rattle.ascii.proofs.Cases.{by_test}
@@ -67,11 +66,6 @@ put_put o at s t h =
     ∙ append_assoc (take at o) s (t ++ drop (at + length (s ++ t)) o)
     ∙ ap (λ (l : List ℕ). take at o ++ l) (sym (append_assoc s t (drop (at + length (s ++ t)) o)))
     ∙ sym (unfold_put o at (s ++ t))
-
--- a byte that is stored is a text of one byte
-pub put_byte : (o : List ℕ) (at x : ℕ) → at < length o → set o at x ≡ put_in o at (x ∷ [])
-unfolding put_in
-put_byte o at x h = set_split o at x h ∙ ap (λ (k : ℕ). take at o ++ (x ∷ drop k o)) (sym (add-one at))
 
 -- a text in the place of as many bytes of the buffer
 pub put_between : (o : List ℕ) (at n : ℕ) (t s : List ℕ) → n ≡ length t → s ≡ t → put_mid at (at + n - at) o s ≡ put_in o at t

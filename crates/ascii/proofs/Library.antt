@@ -10,7 +10,7 @@ use Rattle.std.specs.Cmp.{nat_eq_equiv}
 use Rattle.ascii.specs.Text.{front, space, spaces, same, trim}
 use Rattle.ascii.proofs.Spaces.{trimmed_at, trimmed_none}
 
-front_prefix : (p : ℕ → Bool) (s : List ℕ) → prefix_len p s ≡ front p s
+pub front_prefix : (p : ℕ → Bool) (s : List ℕ) → prefix_len p s ≡ front p s
 unfolding front
 front_prefix p [] = refl
 front_prefix p (b ∷ bs) = rw (front_prefix p bs) (ap (λ (n : ℕ). cond (p b) n 0) (omega arith))

@@ -1,7 +1,8 @@
 -- A number read digit by digit, and the number that some digits at the front of a text are.
 -- Assumes nothing.
 use Rattle.std.specs.Prelude.{Option, Some, None}
-use mathlib.Core.Path.{◌≡◌, refl, ap}
+use Rattle.std.proofs.lemmas.Option.{cond_some}
+use mathlib.Core.Path.{◌≡◌, refl, sym, ap}
 use mathlib.Core.List.{List, [], ◌∷◌}
 use mathlib.Core.Bool.{Bool, ◌&&◌, cond, and-false}
 use Prim.Native.Nat.{ℕ, zero, suc, ◌+◌, ◌-◌, ◌*◌, ◌^◌, ◌≤◌, ◌<◌}
@@ -112,13 +113,10 @@ digits_number s n some few h =
 
 -- what was found of a number that may be too large
 pub found_is : (d v : ℕ) → Some v ≡ cond (ltb d (2 ^ 64)) (Some d) None → v ≡ d
-found_is d v e =
-    either (ltb d (2 ^ 64))
-    (λ t. let z : Some v ≡ Some d = rw t at e in cc)
-    (λ t. let y : Some v ≡ None = rw t at e in let z : ◌≡◌ {A = ℕ} 0 1 = cc in absurd (omega arith))
+found_is d v e = sym (cond_some (ltb d (2 ^ 64)) d v (sym e)).1
 
 pub none_large : (d : ℕ) → None ≡ cond (ltb d (2 ^ 64)) (Some d) None → 2 ^ 64 ≤ d
 none_large d e =
     either (ltb d (2 ^ 64))
-    (λ t. let y : None ≡ Some d = rw t at e in let z : ◌≡◌ {A = ℕ} 0 1 = cc in absurd (omega arith))
+    (λ t. let y : None ≡ Some d = rw t at e in cc)
     (λ t. ltb-false d (2 ^ 64) t)

@@ -16,7 +16,7 @@ use Rattle.bintable.specs.Entry.{limited, main_of, nine}
 use Rattle.bintable.proofs.Nine.{sizes}
 
 pub refused_not : {A : Type 0} (n p : ℕ) → refused n p ≡ accepted → A
-refused_not n p e = absurd (let z : ◌≡◌ {A = ℕ} 0 1 = cc in omega arith)
+refused_not n p e = cc
 
 pub both_accepted : (a b : Outcome) → before a b ≡ accepted → (a ≡ accepted) × (b ≡ accepted)
 both_accepted accepted b e = (refl, e)

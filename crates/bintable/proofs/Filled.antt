@@ -12,7 +12,9 @@ use lib.ListN.{length, replicate, set}
 use lib.Seq.{set_at}
 use Rattle.card.specs.declared.Value.TheVariants.{String}
 use Rattle.card.proofs.Inside.{value_inside}
+use Rattle.std.proofs.lemmas.List.{map_push}
 use Rattle.keyword.specs.Names.{range}
+use Rattle.keyword.proofs.Position.{range_append}
 use Rattle.refusal.specs.Refusal.{Outcome, accepted, refused, before}
 use Rattle.tform.specs.declared.TForm.{TForm}
 use Rattle.tform.specs.Width.{count_ok}
@@ -36,24 +38,15 @@ form_count s = ok_in (form_of s) (form_ok s)
 
 -- ---- one column more
 
-pub range_snoc : (n k : ℕ) → range n (suc k) ≡ range n k ++ ((n + k) ∷ [])
-unfolding range
-range_snoc n zero = rw (add-zero n)
-range_snoc n (suc k) = ap (λ (l : List ℕ). n ∷ l) (range_snoc (suc n) k ∙ ap (λ (m : ℕ). range (suc n) k ++ (m ∷ [])) (suc-add n k ∙ sym (add-suc n k)))
-
-map_snoc : {B : Type 0} (f : ℕ → B) (xs : List ℕ) (x : ℕ) → map f (xs ++ (x ∷ [])) ≡ map f xs ++ (f x ∷ [])
-map_snoc f [] x = refl
-map_snoc f (y ∷ ys) x = ap (λ l. f y ∷ l) (map_snoc f ys x)
-
 -- the checks of one column more
 pub checks_none : (h : List ℕ) → accepted ≡ column_checks h 0
 unfolding column_checks range first_refusal
 checks_none h = refl
 
 pub checks_next : (h : List ℕ) (k : ℕ) → before (column_checks h k) (column_check h (k + 1)) ≡ column_checks h (k + 1)
-unfolding column_checks
+unfolding column_checks range
 checks_next h k =
-    sym (ap first_refusal (ap (λ (m : ℕ). map (column_check h) (range 1 m)) (add-one k) ∙ ap (map (column_check h)) (range_snoc 1 k) ∙ map_snoc (column_check h) (range 1 k) (1 + k))
+    sym (ap first_refusal (ap (map (column_check h)) (range_append 1 k 1) ∙ map_push (column_check h) (range 1 k) (1 + k))
     ∙ first_snoc (map (column_check h) (range 1 k)) (column_check h (1 + k))
     ∙ ap (λ (m : ℕ). before (first_refusal (map (column_check h) (range 1 k))) (column_check h m)) (omega arith))
 
@@ -143,4 +136,4 @@ module _ (h : List ℕ) where
   -- a stretch of the header fits 32 bits
   pub value_fits : (r : Option ℕ) → length h < 2 ^ 32 → (a n : ℕ) → value_at h r ≡ Some (String a n) → (a < 2 ^ 32) × (n < 2 ^ 32)
   value_fits (Some k) l a n e = let i = value_inside a n h k e in (omega (arith, i), omega (arith, i))
-  value_fits None l a n e = absurd (let z : ◌≡◌ {A = ℕ} 0 1 = cc in omega arith)
+  value_fits None l a n e = cc

@@ -78,7 +78,7 @@ module _ (h : List ℕ) where
   module _ (a : List ℕ) (l : BinTable) where
     passed : (o : Outcome) (m : BinTable) → entry_by o m ≡ accepted l → (o ≡ O.accepted) × (l ≡ m)
     passed O.accepted m e = (refl, cc)
-    passed (O.refused n p) m e = absurd (let z : ◌≡◌ {A = ℕ} 0 1 = cc in omega arith)
+    passed (O.refused n p) m e = cc
 
     parts : entry h a ≡ accepted l → ((nine_checks h ≡ O.accepted) × (check9 (layout_of h) ≡ O.accepted)) × ((check10 (layout_of h) a ≡ O.accepted) × (l ≡ layout_of h))
     parts e =

@@ -55,7 +55,7 @@ module _ (h : List ℕ) where
 
   reached : (r : Option ℕ) (a n : ℕ) → value_at h r ≡ Some (String a n) → a + n ≤ length h
   reached (Some k) a n e = value_inside a n h k e
-  reached None a n e = absurd (let w : ◌≡◌ {A = ℕ} 0 1 = cc in omega arith)
+  reached None a n e = cc
 
   -- the TTYPEn of column c is the string of n bytes from byte a on
   module _ (c a n : ℕ) (p : c < (layout_of h).tfields) (v : value_at h (ttype_of h (c + 1)) ≡ Some (String a n)) where

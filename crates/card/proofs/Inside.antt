@@ -21,10 +21,10 @@ use Rattle.ascii.proofs.Spaces.{trimmed_le}
 
 module _ (a n : ℕ) where
   integer_other : (z : ℤ) → Some (Integer z) ≡ Some (String a n) → ⊥
-  integer_other z e = let w : ◌≡◌ {A = ℕ} 0 1 = cc in omega arith
+  integer_other z e = cc
 
   none_other : None ≡ Some (String a n) → ⊥
-  none_other e = let w : ◌≡◌ {A = ℕ} 0 1 = cc in omega arith
+  none_other e = cc
 
   digits_other : (minus : Bool) (s : List ℕ) → digits_value minus s ≡ Some (String a n) → ⊥
   unfolding digits_value

@@ -59,7 +59,7 @@ module _ (h : List ℕ) (k : ℕ) where
     over : ltb k (length h / 80) ≡ false
     over =
         either (ltb k (length h / 80))
-        (λ t. absurd (let y : None ≡ Some (card_at h k) = rw t at missing in let z : ◌≡◌ {A = ℕ} 0 1 = cc in omega arith))
+        (λ t. let y : None ≡ Some (card_at h k) = rw t at missing in cc)
         (λ t. t)
 
     blank : card_at h k ≡ replicate 80 32
@@ -82,7 +82,7 @@ module _ (h : List ℕ) (k : ℕ) where
     below : ltb k (length h / 80) ≡ true
     below =
         either (ltb k (length h / 80)) (λ t. t)
-        (λ t. absurd (let y : Some r ≡ None = rw t at there in let z : ◌≡◌ {A = ℕ} 0 1 = cc in omega arith))
+        (λ t. let y : Some r ≡ None = rw t at there in cc)
 
     pub record_is : r ≡ card_at h k
     record_is = let y : Some r ≡ Some (card_at h k) = rw below at there in cc

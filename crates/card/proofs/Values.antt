@@ -1,6 +1,7 @@
 -- The cases of a value, one law for each way that the definitions go.
 -- Assumes nothing.
 use Rattle.std.specs.Prelude.{Some, None}
+use Rattle.std.proofs.lemmas.Option.{cond_some}
 use mathlib.Core.Path.{◌≡◌, sym, ap, ◌∙◌}
 use mathlib.Core.List.{List}
 use mathlib.Core.Bool.{Bool, true, false, and-false}
@@ -38,7 +39,7 @@ module _ (s : List ℕ) (n : ℕ) (e : n ≡ front digit s) (few : n ≤ 18) whe
 
   pub read : (v : ℕ) → Some v ≡ number (take n s) → Read v
   read v r =
-      let some : n ≡ 0 → ⊥ = λ z. let y : Some v ≡ None = r ∙ nothing z in let w : ◌≡◌ {A = ℕ} 0 1 = cc in omega arith in
+      let some : n ≡ 0 → ⊥ = λ z. let y : Some v ≡ None = r ∙ nothing z in cc in
       let y : Some v ≡ Some (decimal 0 (take n s)) = r ∙ digits_read some in
       let is : v ≡ decimal 0 (take n s) = cc in
       record {
@@ -53,7 +54,7 @@ module _ (s : List ℕ) (n : ℕ) (e : n ≡ front digit s) (few : n ≤ 18) whe
     unread r =
         either (eqb n 0)
         (λ t. let z : front digit s ≡ 0 = omega (arith, eqb-true n 0 t, e) in rw z)
-        (λ t. absurd (let y : None ≡ Some (decimal 0 (take n s)) = r ∙ digits_read (λ z. eqb-false n 0 t z) in let w : ◌≡◌ {A = ℕ} 0 1 = cc in omega arith))
+        (λ t. let y : None ≡ Some (decimal 0 (take n s)) = r ∙ digits_read (λ z. eqb-false n 0 t z) in cc)
 
     pub digits_before : follows (drop n s) ≡ false → digits_value minus s ≡ None
     unfolding digits_value
@@ -73,15 +74,12 @@ module _ (s : List ℕ) (start : ℕ) where
   unfolding string_value
   string_open e =
       either (ltb (closing s) (length s))
-      (λ t. absurd (let y : None ≡ Some (closing s) = rw t at e in let w : ◌≡◌ {A = ℕ} 0 1 = cc in omega arith))
+      (λ t. let y : None ≡ Some (closing s) = rw t at e in cc)
       (λ t. rw t)
 
   module _ (n : ℕ) (e : Some n ≡ closing_place s) where
     closes : (ltb (closing s) (length s) ≡ true) × (closing s ≡ n)
-    closes =
-        either (ltb (closing s) (length s))
-        (λ t. let y : Some n ≡ Some (closing s) = rw t at e in (t, cc))
-        (λ t. absurd (let y : Some n ≡ None = rw t at e in let w : ◌≡◌ {A = ℕ} 0 1 = cc in omega arith))
+    closes = cond_some (ltb (closing s) (length s)) (closing s) n (sym e)
 
     pub string_before : follows (take (length s - (n + 1)) (drop (n + 1) s)) ≡ false → string_value start s ≡ None
     unfolding string_value

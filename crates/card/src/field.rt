@@ -69,6 +69,7 @@ fn value_from(s: &[u8], start: usize) -> Option<Value>
     }
 }
 
+#[tactic(auto, using(ascii::proofs::Front::front_le))]
 pub fn field_value(f: &[u8], start: usize) -> Option<Value>
     requires { start + length f.now < 2 ^ 64 }
     ensures { result ≡ field_value start f.now }

@@ -15,6 +15,7 @@ use Rattle.header.specs.declared.Entry.{Entry}
 use Rattle.header.specs.Records.{second, found, repeated, repeated_after}
 use Rattle.header.specs.Checks.{names_read, no_entry, index_by}
 use Rattle.header.specs.Noting.{entry_at, stored, kept, kept_after, noted}
+use Rattle.keyword.proofs.Parts.{or_nothing}
 use Rattle.keyword.proofs.Position.{or_else, position_at, map_at}
 use Rattle.header.proofs.Snoc.{only, position_snoc, second_snoc, repeated_snoc}
 use Rattle.keyword.proofs.Slots.{slots_own, once_own}
@@ -49,7 +50,7 @@ module _ {A : Type 0} where
       by_place : (p : Option ℕ) → position x us ≡ p → map g us ≡ stored (map f us) p (v (entry_at none (map f us) p))
       by_place None e =
           map_same f g us (λ i q. others _ (same_false _ x (λ w.
-          let u = rw w at (own i q) in let z : ◌≡◌ {A = ℕ} 0 1 = cc in omega arith)))
+          let u = rw w at (own i q) in cc)))
       by_place (Some j) e =
           let p = position_at x us j e in
           map_but f g us j p.0
@@ -87,10 +88,6 @@ module _ {ns : List (List ℕ)} {seen : List (Option ℕ)} {index : List Entry} 
   pub length_index : length index ≡ length slot_names
   length_index = rw d.entries (length-map slot_names (entry_in ns))
 
-none : (f : Option ℕ) (m : ℕ) → or_else f (only false m) ≡ f
-none (Some k) m = refl
-none None m = refl
-
 kept_only : (f : Option ℕ) (m : ℕ) → or_else f (Some m) ≡ kept f m
 kept_only (Some k) m = refl
 kept_only None m = refl
@@ -106,10 +103,10 @@ module _ (ns : List (List ℕ)) (x : List ℕ) where
 
   -- another name keeps its places
   first_other : (n : List ℕ) → same n x ≡ false → first_in more n ≡ first_in ns n
-  first_other n e = (rw e at (position_snoc n x ns)) ∙ none (position n ns) (length ns)
+  first_other n e = (rw e at (position_snoc n x ns)) ∙ or_nothing (position n ns)
 
   second_other : (n : List ℕ) → same n x ≡ false → second n more ≡ second n ns
-  second_other n e = (rw e at (second_snoc n x ns)) ∙ none (second n ns) (length ns)
+  second_other n e = (rw e at (second_snoc n x ns)) ∙ or_nothing (second n ns)
 
   entry_other : (n : List ℕ) → same n x ≡ false → entry_in more n ≡ entry_in ns n
   entry_other n e = rw (first_other n e, second_other n e)

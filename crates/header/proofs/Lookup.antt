@@ -28,13 +28,13 @@ module _ (h : List ℕ) (e : checked h ≡ accepted) where
   pub accepted_length : bad_length h ≡ false
   unfolding checked check1
   accepted_length =
-      either (bad_length h) (λ t. absurd (let w = rw t at e in let z : ◌≡◌ {A = ℕ} 0 1 = cc in omega arith)) (λ t. t)
+      either (bad_length h) (λ t. let w = rw t at e in cc) (λ t. t)
 
   pub accepted_end : has_end (records h) ≡ true
   unfolding checked check1 check2
   accepted_end =
       either (has_end (records h)) (λ t. t)
-      (λ t. absurd (let w = rw (accepted_length, t) at e in let z : ◌≡◌ {A = ℕ} 0 1 = cc in omega arith))
+      (λ t. let w = rw (accepted_length, t) at e in cc)
 
   pub accepted_names : names_read h ≡ names h
   unfolding names_read

@@ -165,7 +165,7 @@ module _ (s : List ℕ) where
 
   pub no_number : None ≡ number s → position s (map numeral (range 1 index_limit)) ≡ None
   no_number e =
-      index_none s (λ h. let y : None ≡ Some (decimal 0 s) = e ∙ numeral_number h in absurd (let z : ◌≡◌ {A = ℕ} 0 1 = cc in omega arith))
+      index_none s (λ h. let y : None ≡ Some (decimal 0 s) = e ∙ numeral_number h in cc)
 
   pub too_long : 3 < length s → position s (map numeral (range 1 index_limit)) ≡ None
   too_long l = index_none s (λ h. absurd (omega (arith, h.few)))
@@ -206,4 +206,4 @@ module _ (s : List ℕ) where
         least = omega (arith, is, (numeral_says s h).least);
         place = ap (λ (v : ℕ). Some (v - 1)) is ∙ sym (index_of s h);
       })
-      (λ t. absurd (let y : Some n ≡ None = rw t at e in let z : ◌≡◌ {A = ℕ} 0 1 = cc in omega arith))
+      (λ t. let y : Some n ≡ None = rw t at e in cc)

@@ -42,7 +42,7 @@ pub length_indexed : (count : ℕ) (root : List ℕ) → length (indexed count r
 unfolding indexed
 length_indexed count root = rw (length-map, length_range)
 
-or_nothing : (f : Option ℕ) → or_else f None ≡ f
+pub or_nothing : (f : Option ℕ) → or_else f None ≡ f
 or_nothing (Some k) = refl
 or_nothing None = refl
 
@@ -78,7 +78,7 @@ none_single n rs w r e = by (position n single) refl
         sym (map_at g single s None p.0) ∙ ap (λ (l : List (Option ℕ)). get_or l s None) w.apart
         ∙ map_at (λ (x : List ℕ). None) single s None p.0 in
         let v = rw p.1 at u in
-        absurd (let z : ◌≡◌ {A = ℕ} 0 1 = cc in omega arith)
+        cc
 
 -- of the first root of a list and the others
 module _ (root : List ℕ) (rs : List (List ℕ)) where

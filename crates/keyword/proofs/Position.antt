@@ -20,7 +20,7 @@ use Rattle.ascii.proofs.Same.{same_true, same_refl, same_false, same_root}
 module _ (n : List ℕ) where
   later_at : (x : List ℕ) (xs : List (List ℕ)) → ((s : ℕ) → position n xs ≡ Some s → (s < length xs) × (get_or xs s [] ≡ n))
       → (f : Option ℕ) → position n xs ≡ f → (s : ℕ) → later f ≡ Some s → (s < length (x ∷ xs)) × (get_or (x ∷ xs) s [] ≡ n)
-  later_at x xs ih None e s h = let z : ◌≡◌ {A = ℕ} 0 1 = cc in absurd (omega arith)
+  later_at x xs ih None e s h = cc
   later_at x xs ih (Some k) e zero h = let z : suc k ≡ 0 = cc in absurd (omega arith)
   later_at x xs ih (Some k) e (suc s) h =
       let z : suc k ≡ suc s = cc in
@@ -36,7 +36,7 @@ module _ (n : List ℕ) where
 
   pub position_at : (xs : List (List ℕ)) (s : ℕ) → position n xs ≡ Some s → (s < length xs) × (get_or xs s [] ≡ n)
   unfolding position
-  position_at [] s h = let z : ◌≡◌ {A = ℕ} 0 1 = cc in absurd (omega arith)
+  position_at [] s h = cc
   position_at (x ∷ xs) s h = here_at (same n x) x xs refl (later_at x xs (position_at xs) (position n xs) refl) s h
 
 -- the first place of two

@@ -138,28 +138,3 @@ rooted_name r k p q =
 pub rooted_inside : (r k : ℕ) → r < length roots → k < column_slots → first_slot r + k < length slot_names
 unfolding single
 rooted_inside r k p q = omega (arith, slots_length, mul-le-mul_right column_slots p)
-
--- a name that is not used has no place
-module _ (n : List ℕ) (e : position n used_names ≡ None) where
-  pub unused : (position n slot_names ≡ None) × (position n once_names ≡ None)
-  unfolding used_names
-  unused = by (position (take 5 n) roots) refl
-    where
-      index : Option ℕ
-      index = position (drop 5 n) (map numeral (range 1 index_limit))
-
-      none : (r : ℕ) → position (take 5 n) roots ≡ Some r → (f : Option ℕ) → index ≡ f
-          → (position n slot_names ≡ None) × (position n once_names ≡ None)
-      none r q None d = (rooted_slot n r q ∙ rw d, none_once n r q d)
-      none r q (Some k) d =
-          let u = sym (names_root n index_limit (omega arith) roots all_rooted r q) ∙ e in
-          let w = rw (d, lt-ltb k index_limit (index_below (drop 5 n) k d)) at u in
-          absurd (let z : ◌≡◌ {A = ℕ} 0 1 = cc in omega arith)
-
-      by : (f : Option ℕ) → position (take 5 n) roots ≡ f
-          → (position n slot_names ≡ None) × (position n once_names ≡ None)
-      by None q =
-          let s : position n single ≡ None = sym (names_single n index_limit (omega arith) roots all_rooted q)
-          ∙ e in
-          (single_slot n q ∙ s, single_once n q ∙ s)
-      by (Some r) q = none r q index refl

@@ -118,25 +118,21 @@ fn root_of(name: &[u8]) -> Option<usize>
 }
 
 // The slot of root r with n = k + 1.
+#[tactic(auto, unfolding(crate::specs::Names::single, crate::specs::Names::once_roots, crate::specs::Names::other_roots))]
 fn indexed_slot(r: usize, k: usize) -> Option<usize>
     requires { (r < length roots) × (k < index_limit) }
     ensures { result ≡ further (length single + r * column_slots) (cond (ltb k column_slots) (Some k) None) }
 {
-    if k < COLUMN_SLOTS {
-        return Some(SINGLE + r * COLUMN_SLOTS + k);
-    }
-    None
+    (k < COLUMN_SLOTS).then_some(SINGLE + r * COLUMN_SLOTS + k)
 }
 
-// Its place among the names that must not stand twice.
+// Its place among the names that must not stand twice. Two functions: one asks of n, the other of the root.
+#[tactic(auto, unfolding(crate::specs::Names::single, crate::specs::Names::once_roots, crate::specs::Names::other_roots))]
 fn indexed_once(r: usize, k: usize) -> Option<usize>
-    requires { k < index_limit }
+    requires { (r < length roots) × (k < index_limit) }
     ensures { result ≡ cond (ltb r (length once_roots)) (Some (length single + r * index_limit + k)) None }
 {
-    if r < ONCE_ROOTS {
-        return Some(SINGLE + r * INDEX_LIMIT + k);
-    }
-    None
+    (r < ONCE_ROOTS).then_some(SINGLE + r * INDEX_LIMIT + k)
 }
 
 // The places of a name that has no root in front.

@@ -11,7 +11,7 @@ use lib.ListN.{length, get_or, drop}
 use lib.Pointwise.{pointwise, pointwise_long}
 use borrow.Author.Tests.{ltb-true, ltb-false}
 use Rattle.ascii.specs.Text.{same}
-use Rattle.ascii.proofs.Cases.{either, both}
+use Rattle.ascii.proofs.Cases.{either, both, no_value}
 use Rattle.layout.specs.declared.Column.{Column}
 use Rattle.layout.specs.declared.Name.{Name}
 use Rattle.layout.specs.declared.BinTable.{BinTable}
@@ -19,7 +19,7 @@ use Rattle.layout.specs.Layout.{no_column, columns_of}
 use Rattle.layout.specs.Names.{undoubled, column_name, stretch_of, in_header, alike, same_name, has_name, find_name}
 use Rattle.layout.specs.EitherCase.{letter, named, has_bytes, find_bytes}
 use Rattle.layout.proofs.Named.{part_in_header, name_at, column_at, found_inside}
-use Rattle.layout.proofs.First.{not_both, nothing_else, first_passes, first_none, first_upto, first_same}
+use Rattle.layout.proofs.First.{not_both, first_passes, first_none, first_upto, first_same}
 use Rattle.layout.proofs.Alike.{names_equivalence, each_alike, bytes_alike, bytes_alone, front_alike, rest_alike, undoubled_alike}
 
 module _ (h : List ℕ) (l : BinTable) (s : List ℕ) where
@@ -34,7 +34,7 @@ module _ (h : List ℕ) (l : BinTable) (s : List ℕ) where
   found_nothing = first_none (has_name h s) refl (columns_of l)
 
   pub nothing_found : ((c : ℕ) → named h l s c ≡ false) → find_name h l s ≡ None
-  nothing_found n = nothing_else (find_name h l s) (λ c e. true≢false (sym (found_first c e).0 ∙ n c))
+  nothing_found n = no_value (find_name h l s) (λ c e. true≢false (sym (found_first c e).0 ∙ n c))
 
   -- if a column has the name, it is found or one in front of it is
   pub found_upto : (c : ℕ) → named h l s c ≡ true → (d : ℕ) × (find_name h l s ≡ Some d) × (d ≤ c) × (named h l s d ≡ true)
@@ -77,7 +77,7 @@ module _ (h : List ℕ) (l : BinTable) (s : List ℕ) where
   -- where no column has the name in either case, none has its bytes
   pub nothing_by_bytes : find_name h l s ≡ None → find_bytes h l s ≡ None
   nothing_by_bytes n =
-      nothing_else (find_bytes h l s) (λ c e. let d = found_by_bytes c e in not_both (find_name h l s) d.0 n d.1)
+      no_value (find_bytes h l s) (λ c e. let d = found_by_bytes c e in not_both (find_name h l s) d.0 n d.1)
 
   -- a name without letters is found as by its bytes
   pub found_without_letters : ((i : ℕ) → letter (get_or s i 0) ≡ false) → find_name h l s ≡ find_bytes h l s

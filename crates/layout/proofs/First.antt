@@ -18,11 +18,7 @@ use Rattle.layout.specs.Layout.{no_column}
 use Rattle.layout.specs.Names.{first_column}
 
 pub not_both : (f : Option ℕ) (c : ℕ) → f ≡ None → f ≡ Some c → ⊥
-not_both f c n a = let z : ◌≡◌ {A = ℕ} 0 1 = cc in omega arith
-
-pub nothing_else : (f : Option ℕ) → ((c : ℕ) → f ≡ Some c → ⊥) → f ≡ None
-nothing_else None n = refl
-nothing_else (Some c) n = absurd (n c refl)
+not_both f c n a = cc
 
 -- the library's place of the first that passes
 first_from : (test : Column → Bool) (i : ℕ) (cs : List Column)

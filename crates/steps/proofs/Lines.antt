@@ -70,16 +70,6 @@ module _ (s : List ℕ) (at : ℕ) where
       rw (e, take-add at (suc n) s) (feeds_append (take at s) (take (suc n) (drop at s))
       ∙ ap (λ (k : ℕ). line_feeds (take at s) + k) (first_feed (drop at s) (omega (arith, length-drop at s))))
 
--- what the library's chains over the bytes give
-front_prefix : (p : ℕ → Bool) (s : List ℕ) → prefix_len p s ≡ front p s
-unfolding front
-front_prefix p [] = refl
-front_prefix p (b ∷ bs) = rw (front_prefix p bs) (ap (λ (n : ℕ). cond (p b) n 0) (omega arith))
-
--- as many as `take_while` takes
-pub front_taken : (p : ℕ → Bool) (s : List ℕ) → length (take_while p s) ≡ front p s
-front_taken p s = length-prefix_len p s ∙ front_prefix p s
-
 -- a line lies within its text
 pub before_within : (e n : ℕ) (s : List ℕ) → n ≡ before e s → n ≡ length (take n s)
 before_within e n s h = sym (length-take-le n s (omega (arith, h, front_le (λ (b : ℕ). not (eqb b e)) s)))

@@ -20,12 +20,7 @@ use Rattle.steps.specs.Numbers.{Numbers, all_of, not_all, numbers}
 use Rattle.steps.specs.Line.{Says, row_by, seek_by, choose_by, is, begins, says, command_of, indexes_of}
 
 -- the library's `==` of two slices
-pub same_pointwise : (xs ys : List ℕ) → pointwise eqb xs ys ≡ same xs ys
-unfolding same
-same_pointwise [] [] = refl
-same_pointwise [] (y ∷ ys) = refl
-same_pointwise (x ∷ xs) [] = refl
-same_pointwise (x ∷ xs) (y ∷ ys) = ap (λ (b : Bool). eqb x y && b) (same_pointwise xs ys)
+pub use Rattle.ascii.proofs.Library.{same_pointwise}
 
 -- the bound of a row's cells
 abbrev RowOk : Option Command → Type 0

@@ -7,7 +7,7 @@ use mathlib.Core.List.{List}
 use mathlib.Core.Bool.{Bool, true, false, cond, ◌&&◌, and-true, false≢true}
 use native.Mathlib.Nat.{add-zero, zero-add, add-suc, suc-add, pow-succ', pow-zero, div-one, div-div-eq-div-mul, div-eq_of_lt, div-lt_iff_lt-mul, one-mul, lt_of_lt_of_le, not-le_of_lt}
 use native.Mathlib.Omega.{arith}
-use lib.Dec.{eqb, ltb}
+use lib.Dec.{eqb, ltb, leb-suc-suc}
 use lib.ListN.{length, get_or, drop}
 use lib.Seq.{drop-cons}
 use lib.Pow.{pow_pos, pow_mono}
@@ -40,18 +40,13 @@ odd : (t : Bool) (x : ℕ) → eqb ((cond t 1 0 + 2 * x) % 2) 1 ≡ t
 odd true x = let e : (1 + 2 * x) % 2 ≡ 1 = omega arith in rw e
 odd false x = let e : (0 + 2 * x) % 2 ≡ 0 = omega arith in rw e
 
-ltb_suc : (k n : ℕ) → ltb (suc k) (suc n) ≡ ltb k n
-ltb_suc k n =
-    either (ltb k n) (λ e. lt-ltb (suc k) (suc n) (omega (arith, ltb-true k n e)) ∙ sym e)
-    (λ e. le-ltb (suc k) (suc n) (omega (arith, ltb-false k n e)) ∙ sym e)
-
 -- column c + k is in the choice from column c on if it is one of the n and wanted
 chosen_from : (sel : Selection) (c n k : ℕ) → chosen (choice_from sel c n) k ≡ (ltb k n && wanted sel (c + k))
 unfolding choice_from
 chosen_from sel c zero k = rw (le-ltb k 0 (omega arith)) (unchosen 0 k (pow_pos k))
 chosen_from sel c (suc n) zero = rw (chosen_zero, odd (wanted sel c) (choice_from sel (suc c) n), add-zero, lt-ltb 0 (suc n) (omega arith))
 chosen_from sel c (suc n) (suc k) =
-    rw (chosen_suc, half (wanted sel c) (choice_from sel (suc c) n), ltb_suc k n, add-suc c k, ← suc-add c k) (chosen_from sel (suc c) n k)
+    rw (chosen_suc, half (wanted sel c) (choice_from sel (suc c) n), leb-suc-suc (suc k) n, add-suc c k, ← suc-add c k) (chosen_from sel (suc c) n k)
 
 -- a selection's choice has the layout's columns that are wanted
 pub chosen_of : (l : BinTable) (sel : Selection) (c : ℕ) → chosen (choice_of l sel) c ≡ (ltb c l.tfields && wanted sel c)

@@ -7,7 +7,7 @@ use mathlib.Core.List.{List, [], ◌++◌}
 use native.Mathlib.Nat.{add-zero, add-suc, suc-add, zero-add, not-suc-le-zero, le_of_suc-le-suc}
 use native.Mathlib.Omega.{arith}
 use lib.ListN.{length, get_or, length-append, get_or-append}
-use lib.Seq.{get_or-append-add}
+use lib.Seq.{get_or-append_right}
 use lib.Dec.{ltb}
 use borrow.Author.Tests.{ltb-true, lt-ltb, le-ltb, ltb-false}
 use Rattle.ascii.proofs.Cases.{by_test, either}
@@ -54,13 +54,6 @@ module _ (column : Column) (a : List ℕ) (r c : ℕ) where
   entries_at (F.Descriptor v) (suc k) d h = absurd (not-suc-le-zero (le_of_suc-le-suc h))
   entries_at F.OutsideHeap zero d h = refl
   entries_at F.OutsideHeap (suc k) d h = absurd (not-suc-le-zero (le_of_suc-le-suc h))
-
--- ---- two lists, past the first
-
-get_d_after : (xs ys : List Entry) (k : ℕ) (d : Entry) → length xs ≤ k → get_or (xs ++ ys) k d ≡ get_or ys (k - length xs) d
-get_d_after xs ys k d h =
-    let e : k ≡ length xs + (k - length xs) = omega arith in
-    ap (λ (j : ℕ). get_or (xs ++ ys) j d) e ∙ get_or-append-add xs ys (k - length xs) d
 
 -- ---- a row, column by column
 
@@ -122,7 +115,7 @@ module _ (l : BinTable) (a : List ℕ) (choice : ℕ) (heap : Bool) (r : ℕ) wh
 
   pub at_later : (c k : ℕ) (d : Entry) → c < l.tfields → size c ≤ k → get_or (from c) k d ≡ get_or (from (suc c)) (k - size c) d
   at_later c k d hc hk =
-      rw (from_step c hc, ← column_length c) (get_d_after (column_entries l a choice heap r c) (from (suc c)) k d (rw column_length hk))
+      rw (from_step c hc, ← column_length c) (get_or-append_right (column_entries l a choice heap r c) (from (suc c)) k d (rw column_length hk))
 
 -- ---- the next entry: none below the last row, here, or from the next row's start on
 

@@ -4,7 +4,7 @@ use Rattle.std.specs.Prelude.{nat_eq, not}
 use Rattle.std.proofs.lemmas.Iterator.{YieldsList-from_slice}
 use Rattle.std.proofs.lemmas.Iterator.Consumers.{count_from_yields_List}
 use Rattle.std.proofs.lemmas.Iterator.Search.{YieldsList-from_take_while}
-use Rattle.steps.proofs.Lines.{front_taken}
+use Rattle.ascii.proofs.Library.{front_taken}
 use Rattle.steps.proofs.line_len.Goals as goal
 
 pub returns : goal.returns

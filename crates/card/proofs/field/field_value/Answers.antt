@@ -6,15 +6,6 @@ use Rattle.ascii.proofs.Parts.{part_from}
 use Rattle.card.specs.Value.{value_from, field_value}
 use Rattle.card.proofs.field.field_value.Goals as goal
 
-pub slice_bounds-value_from-count : goal.slice_bounds-value_from-count
-slice_bounds-value_from-count c = omega (arith, front_le space c.args.f.now)
-
-pub slice_bounds-value_from-start : goal.slice_bounds-value_from-start
-slice_bounds-value_from-start c = omega (arith, front_le space c.args.f.now)
-
-pub overflow_add-start : goal.overflow_add-start
-overflow_add-start c = omega (arith, front_le space c.args.f.now)
-
 pub value_from-requires : goal.value_from-requires
 value_from-requires c =
     rw (part_from c.args.f.now c.leading_spaces-n.result, length-drop) (omega (arith, front_le space c.args.f.now))
