@@ -5,7 +5,7 @@ use mathlib.Core.List.{[], ◌++◌}
 use Prim.Native.Nat.{ℕ, ◌+◌, ◌<◌}
 use native.Mathlib.Omega.{arith}
 use lib.ListN.{length, get_or}
-use Rattle.keyword.specs.Names.{numeral, column_slots, once_roots, other_roots, roots, slot_names}
+use Rattle.keyword.specs.Names.{numeral, column_slots, once_roots, other_roots, roots}
 use Rattle.keyword.proofs.Slots.{first_slot, rooted_name, rooted_inside}
 use Rattle.header.specs.Checks.{record_of, first_at}
 use Rattle.header.proofs.Lookup.{slot_first}

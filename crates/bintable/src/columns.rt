@@ -110,7 +110,7 @@ impl<'a> Indexed<'a> {
         })
     }
 
-    // The first refusal of a column ends the reading.
+    // The first refusal of a column ends the reading. Check 7 has kept `tfields` within its limit.
     fn read_columns(&self, tfields: usize) -> Result<Columns, Refusal>
         requires { (length self.now.header.now < 2 ^ 32) × (tfields ≤ tfields_limit) }
         ensures check { outcome_of result ≡ column_checks self.now.header.now tfields }

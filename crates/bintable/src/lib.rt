@@ -26,7 +26,8 @@ struct Indexed<'a> {
 }
 
 impl<'a> Indexed<'a> {
-    // The first record that has the name of a slot.
+    // The first record that has the name of a slot. Each of the three calls that find a record says that its header is
+    // this one, which the checks of the record's text need.
     #[tactic(auto, using(header::proofs::Lookup::slot_first))]
     fn record(&self, slot: usize) -> KeywordRecord<'a>
         requires { slot < length slot_names }

@@ -74,7 +74,8 @@ impl<'a> KeywordRecord<'a> {
         matches!(self.value, Some(Value::Integer(0..)))
     }
 
-    // The number of the value, 0 where it is none or negative.
+    // The number of the value, 0 where it is none or negative, as the definition has it: the sizes are read where their
+    // checks have passed.
     pub fn size(&self) -> u64
         ensures { result ≡ size_in self.now.value }
     {
@@ -91,7 +92,7 @@ impl<'a> KeywordRecord<'a> {
         self.not_negative() && (low..=high).contains(&self.size())
     }
 
-    // The bytes of the value where it is a string, else none.
+    // The bytes of the value where it is a string, else no bytes, as the definition has it.
     pub fn text(&self) -> &'a [u8]
         ensures { result.now ≡ text_in self.now.header.now self.now.value }
     {

@@ -17,8 +17,9 @@ use text::{FIELD_START, NAME_BYTES, Record};
 // How long a record is.
 pub const RECORD_BYTES: usize = 80;
 
-// What a record's value field says. A string is the stretch of the header between its quotes, by its place, with
-// trailing spaces off and doubled quotes still doubled. An unreadable value is none.
+// What a record's value field says. A string is the stretch of the header between its quotes, with trailing spaces off
+// and doubled quotes still doubled: by its place and no slice, since a layout keeps the place of a name. An unreadable
+// value is none.
 #[derive(Clone, Copy)]
 pub enum Value {
     Integer(i64),
@@ -50,7 +51,7 @@ pub fn has_value(header: &[u8], number: usize) -> bool
     record_at(header, number).is_some_and(text::value_indicator)
 }
 
-// The record's name, a part of the header; empty for a record that holds no value.
+// The record's name, a part of the header; empty for a record that holds no value, as the definition has it.
 pub fn name(header: &[u8], number: usize) -> &[u8]
     ensures { result.now ≡ name_of (card_at header.now number) }
 {

@@ -5,7 +5,6 @@ use mathlib.Core.Path.{◌≡◌, ap}
 use mathlib.Core.Bool.{true, false}
 use mathlib.Core.List.{List, []}
 use Prim.Native.Nat.{ℕ, ◌<◌}
-use native.Mathlib.Omega.{arith}
 use lib.ListN.{length, get_or}
 use Rattle.ascii.proofs.Cases.{either}
 use Rattle.keyword.specs.Names.{slot_names}

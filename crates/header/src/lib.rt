@@ -20,7 +20,8 @@ pub struct Entry {
 }
 
 // What checks 1, 2 and 3 of a header come to (docs/FORMAT.md, section 5), and its index: for each slot the records of
-// its name. It is no Result, since a header that check 3 refuses has its index too.
+// its name, an array by slot, since there is no heap for a map. It is no Result, since a header that check 3 refuses has
+// its index too.
 #[derive(Clone, Copy)]
 pub struct Header {
     pub check: Result<(), Refusal>,

@@ -13,10 +13,10 @@ use lib.Dec.{ltb}
 use borrow.Author.Tests.{ltb-true, ltb-false, lt-ltb}
 use Rattle.ascii.specs.Text.{bytes, same}
 use Rattle.ascii.proofs.Cases.{either}
-use Rattle.keyword.specs.Names.{range, numeral, index_limit, column_slots, indexed, single, once_roots, roots, names_up_to, used_names, slot_names, once_names, position}
+use Rattle.keyword.specs.Names.{range, numeral, index_limit, column_slots, indexed, single, once_roots, roots, names_up_to, slot_names, once_names, position}
 use Rattle.keyword.proofs.Position.{position_append, range_at, map_at}
-use Rattle.keyword.proofs.Numerals.{index_at, index_below}
-use Rattle.keyword.proofs.Parts.{Rooted, all_rooted, once_rooted, length_indexed, root_length, names_root, names_single, single_slot, single_once, rooted_slot, none_once}
+use Rattle.keyword.proofs.Numerals.{index_at}
+use Rattle.keyword.proofs.Parts.{Rooted, all_rooted, once_rooted, length_indexed, root_length, names_root}
 
 -- each single name is found at its own place
 places : map (λ (x : List ℕ). position x single) single ≡ map Some (range 0 (length single))

@@ -87,7 +87,7 @@ fn columns(layout: &BinTable) -> &[Column]
 }
 
 // The name of a column, as a part of the header; empty if there is no such column or name, or the header is too
-// short for it.
+// short for it. Header and layout are no struct here, since the header may be another than the layout's.
 pub fn column_name(header: &[u8], layout: BinTable, column: usize) -> &[u8]
     ensures { result.now ≡ column_name header.now layout column }
 {

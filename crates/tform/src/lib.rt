@@ -35,14 +35,16 @@ pub enum TFormType {
     Q(VariableArrayTy),
 }
 
-// The value of TFORMn: a form and the count before its letter.
+// The value of TFORMn: a form and the count before its letter. The calls below take the two apart, since a column has
+// them so, which callers and theorems read.
 #[derive(Clone, Copy)]
 pub struct TForm {
     pub form: TFormType,
     pub count: u32,
 }
 
-// The bytes of one item, or of one descriptor, by the form's letter; 0 for any other byte.
+// The bytes of one item, or of one descriptor, by the form's letter; 0 and no Option for any other byte, as the
+// definition has it (docs/DECISIONS.md).
 #[tactic(auto, unfolding(crate::specs::Width::letter_width, crate::specs::Width::among, ascii::specs::Text::bytes))]
 pub fn item_width(letter: u8) -> u8
     ensures { result ≡ letter_width letter }
@@ -123,7 +125,7 @@ pub fn num_bytes_field(form: TFormType, count: u32) -> u64
 }
 
 // Whether a count is within its limit: a field of P or Q is one descriptor or none. A count that every form may have
-// is seen first, so that most columns need no look at the form.
+// is seen first, so that most columns need no look at the form (docs/SPEED.md).
 pub fn count_ok(form: TFormType, count: u32) -> bool
     ensures { result ≡ count_ok form count }
 {

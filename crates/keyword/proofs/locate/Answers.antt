@@ -1,5 +1,5 @@
 -- `locate` meets its contract: the first five bytes tell whether a root is in front, and the bytes after it which n.
-use Rattle.std.proofs.Common.{◌≡◌, ℕ, ◌≤◌, List, length, take, arith, sym, ap, ◌∙◌, refl, Option, Some, None}
+use Rattle.std.proofs.Common.{◌≡◌, ℕ, ◌≤◌, List, length, take, sym, ap, ◌∙◌, Option, Some, None}
 use mathlib.Core.List.{map}
 use lib.Dec.{ltb}
 use borrow.Author.Tests.{ltb-true, ltb-false}
