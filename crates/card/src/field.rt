@@ -69,7 +69,7 @@ fn value_from(s: &[u8], start: usize) -> Option<Value>
     }
 }
 
-#[tactic(auto, using(ascii::proofs::Front::front_le))]
+#[tactic(auto, using(ascii::proofs::Front::front_le, ascii::proofs::Parts::part_from), unfolding(crate::specs::Value::field_value))]
 pub fn field_value(f: &[u8], start: usize) -> Option<Value>
     requires { start + length f.now < 2 ^ 64 }
     ensures { result ≡ field_value start f.now }

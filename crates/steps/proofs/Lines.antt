@@ -2,11 +2,10 @@
 -- them.
 -- Assumes nothing.
 use Rattle.std.specs.Prelude.{count_by}
-use Rattle.std.proofs.lemmas.List.Folds.{length-prefix_len}
 use Rattle.std.specs.declared.slice.Split.{Split}
 use Rattle.std.specs.Slice.Iter.{split_done, split_rest}
 use Rattle.std.specs.Bool.{MatchBool}
-use Rattle.std.specs.List.{All, IsFirstMatchOrLen, prefix_len, take_while, slice_split, onto_first}
+use Rattle.std.specs.List.{All, IsFirstMatchOrLen, slice_split, onto_first}
 use Rattle.std.proofs.lemmas.List.Recursion.{is_count_by}
 use Rattle.std.proofs.lemmas.Grind.{common_steps}
 use Rattle.std.proofs.lemmas.List.Splits.{slice_split_none, slice_split_at}

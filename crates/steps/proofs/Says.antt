@@ -1,13 +1,12 @@
 -- What a line can say: a row read's list is short, and which lines choose indexes.
 -- Assumes nothing.
-use Rattle.std.specs.Prelude.{Option, Some, None, Bool, ◌&&◌}
-use Rattle.std.specs.Cmp.Lexicographic.{pointwise}
+use Rattle.std.specs.Prelude.{Option, Some, None}
 use mathlib.Core.Path.{◌≡◌, refl, sym, ap, subst, ◌∙◌}
-use mathlib.Core.List.{List, [], ◌∷◌, ◌++◌}
+use mathlib.Core.List.{List, [], ◌++◌}
 use mathlib.Core.Bool.{true, false}
 use Prim.Native.Nat.{ℕ, ◌≤◌}
 use lib.ListN.{take, drop, take-append-drop}
-use lib.Dec.{eqb, leb}
+use lib.Dec.{leb}
 use borrow.Author.Tests.{leb-true}
 use Rattle.ascii.specs.Text.{bytes, same, front}
 use Rattle.ascii.proofs.Cases.{by_test, either}
@@ -18,9 +17,6 @@ use Rattle.steps.specs.Split.{parts}
 use Rattle.ascii.specs.Number.{number}
 use Rattle.steps.specs.Numbers.{Numbers, all_of, not_all, numbers}
 use Rattle.steps.specs.Line.{Says, row_by, seek_by, choose_by, is, begins, says, command_of, indexes_of}
-
--- the library's `==` of two slices
-pub use Rattle.ascii.proofs.Library.{same_pointwise}
 
 -- the bound of a row's cells
 abbrev RowOk : Option Command → Type 0

@@ -53,7 +53,7 @@ pub fn line_feeds(text: &[u8]) -> usize
 
 // What a line says. In a `match` on the words the last arm comes by 35 ways, which no answer goes through, and `==`
 // takes no array beside a slice.
-#[tactic(auto, using(crate::proofs::Says::same_pointwise), unfolding(ascii::specs::Text::bytes, crate::specs::Line::says))]
+#[tactic(auto, using(ascii::proofs::Library::same_pointwise), unfolding(ascii::specs::Text::bytes, crate::specs::Line::says))]
 pub fn parse_command(line: &[u8]) -> Option<Command>
     ensures { result ≡ command_of (says line.now) }
 {
@@ -85,7 +85,7 @@ fn seek_command(text: &[u8]) -> Option<Command>
 }
 
 // A line that is no `cell`, `row` or `seek`.
-#[tactic(auto, using(crate::proofs::Says::same_pointwise), unfolding(ascii::specs::Text::bytes))]
+#[tactic(auto, using(ascii::proofs::Library::same_pointwise), unfolding(ascii::specs::Text::bytes))]
 fn other_command(line: &[u8]) -> Option<Command>
     ensures { result ≡ command_of (cond (is "choose all" line.now) choose_all
         (cond (begins "choose " line.now) (choose_by (numbers (parts (drop 7 line.now))))
@@ -108,7 +108,7 @@ fn choose_command(text: &[u8]) -> Option<Command>
 }
 
 // A line that is none of the others.
-#[tactic(auto, using(crate::proofs::Says::same_pointwise), unfolding(ascii::specs::Text::bytes))]
+#[tactic(auto, using(ascii::proofs::Library::same_pointwise), unfolding(ascii::specs::Text::bytes))]
 fn heap_command(line: &[u8]) -> Option<Command>
     ensures { result ≡ command_of (cond (is "heap on" line.now) (heap true)
         (cond (is "heap off" line.now) (heap false) bad)) }

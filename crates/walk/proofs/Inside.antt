@@ -32,10 +32,10 @@ pub record Limits (l : BinTable) : Type 0 where
   pub heap_to : l.theap ≤ data_size l
   pub sums : columns_ok l.naxis1 0 (columns_of l) ≡ true
 
-and_l : (t u : Bool) → (t && u) ≡ true → t ≡ true
+pub and_l : (t u : Bool) → (t && u) ≡ true → t ≡ true
 and_l t u e = (both t u e).0
 
-and_r : (t u : Bool) → (t && u) ≡ true → u ≡ true
+pub and_r : (t u : Bool) → (t && u) ≡ true → u ≡ true
 and_r t u e = (both t u e).1
 
 pub limits : (l : BinTable) → layout_ok l ≡ true → Limits l

@@ -3,7 +3,8 @@
 use Rattle.std.proofs.Common.{◌≡◌, true, false, sym, ◌∙◌}
 use Rattle.ascii.specs.Text.{bytes}
 use Rattle.steps.specs.Line.{begins, in_places}
-use Rattle.steps.proofs.Says.{same_pointwise, indexes_choose, indexes_other}
+use Rattle.ascii.proofs.Library.{same_pointwise}
+use Rattle.steps.proofs.Says.{indexes_choose, indexes_other}
 use Rattle.steps.proofs.Listing.{indexes_bad}
 use Rattle.steps.proofs.place_indexes.Goals as goal
 
