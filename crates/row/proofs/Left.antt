@@ -19,10 +19,9 @@ use Rattle.walk.specs.Walk.{Gathered, all_cells, outside, gather}
 use Rattle.walk.proofs.Laws.{from, from_row, from_end, length_from}
 use Rattle.table.specs.Scan.{next_chosen}
 use Rattle.table.proofs.ToNext.{next_from_lem}
-use Rattle.row.specs.declared.plan.RowPlan.{RowPlan}
 use Rattle.refusal.specs.declared.Refusal.{Refusal}
 use Rattle.refusal.specs.declared.Refusal.TheVariants as R
-use Rattle.row.specs.Plan.{is_outside, planned_cell, left_of, plan_for}
+use Rattle.row.specs.Plan.{is_outside, planned_cell, left_of}
 use Rattle.row.proofs.Fields.{cells_from, cells_before, before_all, field_on, gather_by, plan_n, column_gathered}
 
 -- what is left, with n cells before
@@ -38,56 +37,55 @@ after_all : (f : ℕ → Cell) (n total : ℕ) (g : Gathered) → after total (b
 after_all f n total (all_cells cs) = ap Ok (omega (arith, cells_before f n cs))
 after_all f n total (outside k) = refl
 
--- what the columns of a plan's row give from column k on without the first `skip` entries, and what is left of the row
-module _ (l : BinTable) (a : List ℕ) (p : RowPlan) where
+-- what the columns of the cursor's row give from column k on without the first `skip` entries, and what is left of the row
+module _ (l : BinTable) (a : List ℕ) (c : TableData) where
   abbrev pub later : ℕ → ℕ → Gathered
-  later k skip = gather (drop skip (from l a p.cursor.choice p.cursor.heap p.cursor.row k))
+  later k skip = gather (drop skip (from l a c.choice c.heap c.row k))
 
   abbrev pub row : List Entry
-  row = row_entries l a p.cursor.choice p.cursor.heap p.cursor.row
+  row = row_entries l a c.choice c.heap c.row
 
   -- the loop's invariant, but that column k is chosen
   abbrev pub Left : ℕ → ℕ → ℕ → Type 0
-  Left total skip k = (total + length (from l a p.cursor.choice p.cursor.heap p.cursor.row k) ≤ length row) × (left_of (gather (drop p.cursor.passed row)) ≡ after total (later k skip))
+  Left total skip k = (total + length (from l a c.choice c.heap c.row k) ≤ length row) × (left_of (gather (drop c.passed row)) ≡ after total (later k skip))
 
   -- the columns up to the next that is chosen have no entry
-  pub left_next : (total skip k j : ℕ) → j ≡ next_chosen p.cursor.choice k → Left total skip k → Left total skip j
-  left_next total skip k j e i = rw (← next_from_lem p.cursor.choice k j e l a p.cursor.heap p.cursor.row) i
+  pub left_next : (total skip k j : ℕ) → j ≡ next_chosen c.choice k → Left total skip k → Left total skip j
+  left_next total skip k j e i = rw (← next_from_lem c.choice k j e l a c.heap c.row) i
+
+  pub left_start : c.row < l.naxis2 → Left 0 c.passed 0
+  left_start h = rw (from_row l a c.choice c.heap c.row h) (omega arith, sym (after_none (later 0 c.passed)))
+
+  pub left_end : (total skip k : ℕ) → l.tfields ≤ k → Left total skip k → left_of (gather (drop c.passed row)) ≡ Ok total
+  unfolding gather
+  left_end total skip k h i = i.1 ∙ rw (from_end l a c.choice c.heap c.row k h, drop-nil {A = Entry} skip, add-zero total)
 
 module _ (l : BinTable) (a : List ℕ) (c : TableData) (s : Stepped (Option ℕ)) where
-  pub left_start : c.row < l.naxis2 → Left l a (plan_for l c s) 0 c.passed 0
-  left_start h = rw (from_row l a c.choice c.heap c.row h) (omega arith, sym (after_none (later l a (plan_for l c s) 0 c.passed)))
-
   later_on : (k skip : ℕ) → k < l.tfields
-      → later l a (plan_for l c s) k skip ≡ gather_by a k (field_on l a c s k skip) (from l a c.choice c.heap c.row (suc k))
+      → later l a c k skip ≡ gather_by a k (field_on l a c s k skip) (from l a c.choice c.heap c.row (suc k))
   unfolding columns_entries
   later_on k skip h =
       let e : l.tfields - k ≡ suc (l.tfields - suc k) = omega (arith, h) in
       rw e (column_gathered l a c s k skip (from l a c.choice c.heap c.row (suc k)))
 
   -- an array outside the heap ends it
-  pub left_outside : (total skip k : ℕ) → k < l.tfields → Left l a (plan_for l c s) total skip k → is_outside (field_on l a c s k skip) ≡ true
-      → left_of (gather (drop c.passed (row l a (plan_for l c s)))) ≡ Err (R.ArrayOutsideHeap k)
+  pub left_outside : (total skip k : ℕ) → k < l.tfields → Left l a c total skip k → is_outside (field_on l a c s k skip) ≡ true
+      → left_of (gather (drop c.passed (row l a c))) ≡ Err (R.ArrayOutsideHeap k)
   left_outside total skip k h i t = i.1 ∙ rw (later_on k skip h, t)
 
   -- the cells of a column, and those so far, are no more than the row's entries
-  left_size : (total skip k : ℕ) → k < l.tfields → Left l a (plan_for l c s) total skip k
-      → total + (field_on l a c s k skip).n + length (from l a c.choice c.heap c.row (suc k)) ≤ length (row l a (plan_for l c s))
+  left_size : (total skip k : ℕ) → k < l.tfields → Left l a c total skip k
+      → total + (field_on l a c s k skip).n + length (from l a c.choice c.heap c.row (suc k)) ≤ length (row l a c)
   left_size total skip k h i = omega (arith, i.0, plan_n l a c s k skip, length_from l a c.choice c.heap c.row k h)
 
-  pub left_bound : (total skip k : ℕ) → k < l.tfields → Left l a (plan_for l c s) total skip k
-      → total + (field_on l a c s k skip).n ≤ length (row l a (plan_for l c s))
+  pub left_bound : (total skip k : ℕ) → k < l.tfields → Left l a c total skip k
+      → total + (field_on l a c s k skip).n ≤ length (row l a c)
   left_bound total skip k h i = omega (arith, left_size total skip k h i)
 
-  pub left_on : (total skip k : ℕ) → k < l.tfields → Left l a (plan_for l c s) total skip k → is_outside (field_on l a c s k skip) ≡ false
-      → Left l a (plan_for l c s) (total + (field_on l a c s k skip).n) (field_on l a c s k skip).skip (suc k)
+  pub left_on : (total skip k : ℕ) → k < l.tfields → Left l a c total skip k → is_outside (field_on l a c s k skip) ≡ false
+      → Left l a c (total + (field_on l a c s k skip).n) (field_on l a c s k skip).skip (suc k)
   left_on total skip k h i t =
       let f = field_on l a c s k skip in (
         left_size total skip k h i,
-        i.1 ∙ rw (later_on k skip h, t) (after_all (planned_cell a f) f.n total (later l a (plan_for l c s) (suc k) f.skip)),
+        i.1 ∙ rw (later_on k skip h, t) (after_all (planned_cell a f) f.n total (later l a c (suc k) f.skip)),
       )
-
-  pub left_end : (total skip k : ℕ) → l.tfields ≤ k → Left l a (plan_for l c s) total skip k
-      → left_of (gather (drop c.passed (row l a (plan_for l c s)))) ≡ Ok total
-  unfolding gather
-  left_end total skip k h i = i.1 ∙ rw (from_end l a c.choice c.heap c.row k h, drop-nil {A = Entry} skip, add-zero total)

@@ -21,7 +21,7 @@ use Rattle.walk.specs.declared.Stepped.{Stepped}
 use Rattle.walk.specs.Plain.{cell_of, item_at, chosen, row_entries}
 use Rattle.walk.specs.Walk.{read_row, placed, grown, Gathered, all_cells, outside, rest}
 use Rattle.walk.specs.Step.{belongs, state_of, cursor_at, StepResult, row_result}
-use Rattle.table.specs.Scan.{heap_of}
+use Rattle.table.specs.Scan.{span_of}
 use Rattle.row.specs.declared.plan.RowPlan.{RowPlan}
 use Rattle.row.specs.declared.plan.FieldPlan.{FieldPlan}
 
@@ -41,7 +41,7 @@ plan_of r c column skip f = record { row = r; c = c; column = column; field = f;
 unfoldable pub field_plan : List ℕ → RowPlan → Column → ℕ → ℕ → FieldPlan
 field_plan a p column c skip =
     plan_of p.cursor.row c column skip
-    (cond (chosen p.cursor.choice c) (field a (p.start + column.start) column p.heap.followed p.heap.start p.heap.end) (no_items L))
+    (cond (chosen p.cursor.choice c) (field a (p.span.start + column.start) column p.span.heap.followed p.span.heap.start p.span.heap.end) (no_items L))
 
 -- a field that has an entry left is an array outside the heap
 abbrev pub outside_by : Field → ℕ → Bool
@@ -95,7 +95,7 @@ module _ (columns : List Column) (a : List ℕ) (p : RowPlan) where
   RowFits c zero skip at m = Unit {0}
   RowFits c (suc k) skip at m =
       let f = plan_at c skip in
-      (p.start + (get_or columns c no_column).start < 2 ^ 64) × (PlanOk f × ((at + f.n ≤ m) × RowFits (suc c) k f.skip (at + f.n) m))
+      (p.span.start + (get_or columns c no_column).start < 2 ^ 64) × (PlanOk f × ((at + f.n ≤ m) × RowFits (suc c) k f.skip (at + f.n) m))
 
 -- ---- a row
 
@@ -117,14 +117,13 @@ plan_for l c s =
     record {
       tfields = l.tfields;
       cursor = c;
-      start = c.row * l.naxis1;
-      heap = heap_of l c.heap;
+      span = span_of l c;
       stepped = s;
     }
 
 -- the plan that stores nothing and leaves the cursor where it is
 abbrev pub no_plan : TableData → Result (Option ℕ) Refusal → RowPlan
-no_plan c r = record { tfields = 0; cursor = c; start = 0; heap = record { followed = false; start = 0; end = 0 }; stepped = stepped c r }
+no_plan c r = record { tfields = 0; cursor = c; span = record { start = 0; heap = record { followed = false; start = 0; end = 0 } }; stepped = stepped c r }
 
 -- the cursor at the next row's start, with n more cells counted
 abbrev pub next_row : TableData → ℕ → TableData

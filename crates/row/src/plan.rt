@@ -23,8 +23,7 @@ use walk::{Stepped, TableData};
 pub struct RowPlan {
     pub tfields: usize,
     pub cursor: TableData,
-    pub start: u64,
-    pub heap: Heap,
+    pub span: RowSpan,
     pub stepped: Stepped<Option<u64>>,
 }
 
@@ -64,31 +63,29 @@ fn plan_of(row: u64, c: usize, column: Column, skip: u64, field: Field) -> Field
     }
 }
 
-// The field of a column of the row. It borrows a heap of its own: a borrow of the plan's keeps the plan in memory, and
-// row reads of one column take 2.7 % more instructions.
-fn field_at(area: &[u8], plan: RowPlan, column: Column) -> Field
-    requires { plan.start + column.start < 2 ^ 64 }
-    ensures { result ≡ field area.now (plan.start + column.start) column plan.heap.followed plan.heap.start
-        plan.heap.end }
+// The field of a column of the row at a place.
+fn field_at(area: &[u8], span: RowSpan, column: Column) -> Field
+    requires { span.start + column.start < 2 ^ 64 }
+    ensures { result ≡ field area.now (span.start + column.start) column span.heap.followed span.heap.start
+        span.heap.end }
 {
-    let heap = plan.heap;
-    cell::read_field(area, plan.start + column.start, column, &heap)
+    cell::read_field(area, span.start + column.start, column, &span.heap)
 }
 
 // The plan of the field of column c, which is chosen, where `skip` entries are still to be passed. The loop that
 // stores is its only caller, so that it is compiled into it (docs/SPEED.md).
 #[tactic(auto, unfolding(crate::specs::Plan::field_plan, cell::specs::Field::field))]
 pub fn field_plan(area: &[u8], plan: RowPlan, column: Column, c: usize, skip: u64) -> FieldPlan
-    requires { (chosen plan.cursor.choice c ≡ true) × (plan.start + column.start < 2 ^ 64) }
+    requires { (chosen plan.cursor.choice c ≡ true) × (plan.span.start + column.start < 2 ^ 64) }
     ensures { result ≡ field_plan area.now plan column c skip }
 {
     let field = match column.form {
         TFormType::Items(ty) => Field::Items {
             ty,
-            at: plan.start + column.start,
+            at: plan.span.start + column.start,
             n: tform::item_count(ty, column.count as u64),
         },
-        TFormType::P(_) | TFormType::Q(_) => field_at(area, plan, column),
+        TFormType::P(_) | TFormType::Q(_) => field_at(area, plan.span, column),
     };
     plan_of(plan.cursor.row, c, column, skip, field)
 }
@@ -104,28 +101,29 @@ fn is_outside(plan: FieldPlan) -> bool
 fn plan_for(row: &TableRow, stepped: Stepped<Option<u64>>) -> RowPlan
     ensures { result ≡ plan_for row.now.layout.now row.now.cursor stepped }
 {
-    let RowSpan { start, heap } = row.span();
     RowPlan {
         tfields: row.layout.tfields,
         cursor: row.cursor,
-        start,
-        heap,
+        span: row.span(),
         stepped,
     }
 }
 
-// The plan that stores nothing and leaves the cursor where it is.
+// The plan that stores nothing and leaves the cursor where it is. No Option: the loop that stores goes over no column
+// then.
 fn no_plan(cursor: TableData, answer: Result<Option<u64>, Refusal>) -> RowPlan
     ensures { result ≡ no_plan cursor answer }
 {
     RowPlan {
         tfields: 0,
         cursor,
-        start: 0,
-        heap: Heap {
-            followed: false,
+        span: RowSpan {
             start: 0,
-            end: 0,
+            heap: Heap {
+                followed: false,
+                start: 0,
+                end: 0,
+            },
         },
         stepped: Stepped { cursor, answer },
     }
@@ -137,18 +135,13 @@ fn rest_of(row: &TableRow) -> Result<u64, Refusal>
         ≡ left_of (rest (row_entries row.now.layout.now row.now.area.now row.now.cursor.choice row.now.cursor.heap)
         row.now.layout.now.naxis2 (state_of row.now.cursor)) }
 {
-    // What the row read returns is not known yet, and the plan of a field does not look at it.
-    let stepped = Stepped {
-        cursor: row.cursor,
-        answer: Ok(None),
-    };
-    let plan = plan_for(row, stepped);
+    let span = row.span();
     let mut total: u64 = 0;
     let mut skip = row.cursor.passed;
-    for c in table::pass::chosen_columns(plan.cursor.choice, row.layout.tfields) {
+    for c in table::pass::chosen_columns(row.cursor.choice, row.layout.tfields) {
         let column = row.layout.columns[c];
-        let field = field_at(row.area, plan, column);
-        let planned = plan_of(plan.cursor.row, c, column, skip, field);
+        let field = field_at(row.area, span, column);
+        let planned = plan_of(row.cursor.row, c, column, skip, field);
         if is_outside(planned) {
             return Err(Refusal::ArrayOutsideHeap { column: c });
         }
@@ -217,27 +210,12 @@ pub fn row_plan(layout: BinTable, area: &[u8], cursor: TableData, room: usize) -
     if cursor.passed != 0 {
         return any_plan(layout, area, cursor, room);
     }
-    let BinTable {
-        naxis1,
-        naxis2,
-        pcount,
-        theap,
-        tfields,
-        ..
-    } = layout;
-    let sizes = Sizes {
-        naxis1,
-        naxis2,
-        pcount,
-        theap,
-        tfields,
-    };
-    if !table::pass::ready(sizes, area.len() as u64, cursor) {
+    if !table::pass::ready(Sizes::from(&layout), area.len() as u64, cursor) {
         return any_plan(layout, area, cursor, room);
     }
     let mut at: u64 = 0;
     let mut cells: u64 = 0;
-    for c in 0..tfields {
+    for c in 0..layout.tfields {
         let column = layout.columns[c];
         let is_chosen = table::chosen(cursor.choice, c);
         if !table::pass::plain_in_order(column, at, is_chosen) {
@@ -246,7 +224,7 @@ pub fn row_plan(layout: BinTable, area: &[u8], cursor: TableData, room: usize) -
         at += tform::num_bytes_field(column.form, column.count);
         cells += table::pass::item_cells(column, is_chosen);
     }
-    if at == naxis1 {
+    if at == layout.naxis1 {
         let row = TableRow {
             layout: &layout,
             area,

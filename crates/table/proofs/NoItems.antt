@@ -8,7 +8,8 @@ use Rattle.std.specs.Iterator.{YieldsThen}
 use denote.Param.Members.{Mut}
 use Prim.Native.Nat.{ℕ, zero, suc, ◌-◌, ◌≤◌, ◌<◌}
 use mathlib.Core.Path.{◌≡◌, refl, sym, ◌∙◌}
-use mathlib.Core.Bool.{Bool, true, false, false≢true, and-false, cond, ◌&&◌, ◌||◌}
+use Rattle.std.proofs.lemmas.Bool.{or_parts}
+use mathlib.Core.Bool.{Bool, true, false, and-false, cond, ◌&&◌, ◌||◌}
 use mathlib.Core.List.{List, [], ◌∷◌}
 use native.Mathlib.Omega.{arith}
 use native.Mathlib.Nat.{sub-zero}
@@ -35,10 +36,6 @@ size_none : (t : Bool) (n k : ℕ) → (n ≡ 0 → k ≡ 0) → (t && ltb 0 n) 
 size_none true n k h e = h (omega (arith, ltb-false 0 n e))
 size_none false n k h e = refl
 
-neither : (t u : Bool) → (t || u) ≡ false → (t ≡ false) × (u ≡ false)
-neither false u e = (refl, e)
-neither true u e = absurd (false≢true (sym e))
-
 -- ---- a row
 
 module _ (l : BinTable) (a : List ℕ) (choice : ℕ) (heap : Bool) (r : ℕ) where
@@ -52,7 +49,7 @@ module _ (l : BinTable) (a : List ℕ) (choice : ℕ) (heap : Bool) (r : ℕ) wh
   unfolding columns_entries any_items
   columns_none zero c e = refl
   columns_none (suc k) c e =
-      let q = neither _ _ e in
+      let q = or_parts (chosen choice c && ltb 0 (items_in l c)) (any_items l choice (suc c) k) e in
       rw (length-append, column_length) (omega (arith, column_none c q.0, columns_none k (suc c) q.1))
 
   pub row_none : any_items l choice 0 l.tfields ≡ false → length (row_entries l a choice heap r) ≡ 0

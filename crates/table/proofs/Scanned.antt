@@ -3,15 +3,15 @@
 use Rattle.std.specs.Prelude.{Option, Some, None}
 use Prim.Native.Nat.{ℕ, suc, ◌+◌, ◌-◌, ◌*◌, ◌≤◌, ◌<◌, ◌^◌}
 use mathlib.Core.Path.{◌≡◌, refl, ◌∙◌}
-use mathlib.Core.Bool.{Bool, true, false, cond, ◌&&◌, ◌||◌}
+use mathlib.Core.Bool.{Bool, true, cond, or-true, ◌&&◌, ◌||◌}
 use mathlib.Core.List.{List}
 use native.Mathlib.Nat.{mul-le-mul_right, mul-le-mul_left}
 use native.Mathlib.Numerals.{add-one}
 use native.Mathlib.Omega.{arith}
-use lib.ListN.{length, get_or, drop}
+use lib.ListN.{length, get_or, drop, length-take}
 use lib.Dec.{eqb, leb, ltb}
 use borrow.Author.Tests.{ltb-true, ltb-false, leb-true, lt-ltb, eq-eqb}
-use Rattle.ascii.proofs.Cases.{by_test, either, both}
+use Rattle.ascii.proofs.Cases.{by_test, either}
 use Rattle.tform.specs.Width.{count_ok}
 use Rattle.layout.specs.declared.BinTable.{BinTable}
 use Rattle.layout.specs.Layout.{naxis1_limit, naxis2_limit, pcount_limit, tfields_limit, data_limit, column_bytes, columns_of, main_size, data_size, columns_ok, layout_ok}
@@ -25,13 +25,15 @@ use Rattle.walk.specs.declared.Entry.TheVariants.{OutsideHeap}
 use Rattle.walk.specs.Plain.{column_of, field_at, field_of, chosen, column_size, entry_in, row_entries}
 use Rattle.walk.specs.Walk.{read_cell, entry_at, entry_outcome, place_ok}
 use Rattle.walk.specs.Step.{fits, choice_ok, belongs, state_of, with_cursor, cursor_step}
+use Rattle.std.proofs.lemmas.Bool.{and_parts}
 use Rattle.walk.proofs.Laws.{from, from_row, from_end, length_from, at_here, at_later, size_chosen, next_here}
 use Rattle.walk.proofs.Steps.{cell_at}
+use Rattle.table.specs.declared.scan.Found.{Found}
 use Rattle.table.specs.declared.scan.Scan.{Scan}
 use Rattle.table.specs.Scan.{sizes_of, ready, after}
 
 -- by what an option is
-by_option : {ℓ : Type 0} (x : Option ℕ) → ((k : ℕ) → x ≡ Some k → ℓ) → (x ≡ None → ℓ) → ℓ
+by_option : {ℓ : Type 0} (x : Option Found) → ((k : Found) → x ≡ Some k → ℓ) → (x ≡ None → ℓ) → ℓ
 by_option (Some k) f g = f k refl
 by_option None f g = g refl
 
@@ -76,11 +78,11 @@ module _ (l : BinTable) (a : List ℕ) (choice : ℕ) (heap : Bool) (r p : ℕ) 
   abbrev pub sought : Entry
   sought = get_or (from l a choice heap r 0) p (OutsideHeap 0)
 
-  -- it is entry `left` of the field of column k, below c
-  abbrev pub FoundIn : ℕ → ℕ → Scan → Type 0
-  FoundIn c k s =
-      (p < s.size) × ((k < c) × ((s.left < size_of (field_of l a heap r k))
-      × (sought ≡ entry_in (column_of l k) a r k (field_of l a heap r k) s.left)))
+  -- it is found, in a column below c and among the row's first n entries
+  abbrev pub FoundIn : ℕ → ℕ → Found → Type 0
+  FoundIn c n f =
+      (p < n) × ((f.column < c) × ((f.idx < size_of (field_of l a heap r f.column))
+      × (sought ≡ entry_in (column_of l f.column) a r f.column (field_of l a heap r f.column) f.idx)))
 
   -- it stands further on, after `left` entries more
   abbrev pub FurtherOn : ℕ → Scan → Type 0
@@ -89,7 +91,7 @@ module _ (l : BinTable) (a : List ℕ) (choice : ℕ) (heap : Bool) (r p : ℕ) 
   -- what the pass says after the first c columns
   pub record Scanned (c : ℕ) (s : Scan) : Type 0 where
     pub summed : Summed l a choice heap r c s.at s.size
-    pub found : (k : ℕ) → s.found ≡ Some k → FoundIn c k s
+    pub found : (f : Found) → s.found ≡ Some f → FoundIn c s.size f
     pub missing : s.found ≡ None → FurtherOn c s
 
   -- column c comes next, with k entries
@@ -102,7 +104,7 @@ module _ (l : BinTable) (a : List ℕ) (choice : ℕ) (heap : Bool) (r p : ℕ) 
     sum : Summed l a choice heap r (suc c) (s.at + column_bytes (column_of l c)) (s.size + k)
     sum = summed_next l a choice heap r full c s.at s.size k h w.summed few count at sized
 
-    here : s.found ≡ None → s.left < k → FoundIn (suc c) c (record { at = s.at + column_bytes (column_of l c); size = s.size + k; left = s.left; found = Some c })
+    here : s.found ≡ None → s.left < k → FoundIn (suc c) (s.size + k) (record { column = c; idx = s.left })
     here e q =
         let m = w.missing e in
         let i : s.left < column_size l a choice heap r c = rw (← sized) q in (
@@ -135,7 +137,7 @@ module _ (l : BinTable) (a : List ℕ) (choice : ℕ) (heap : Bool) (r p : ℕ) 
         rw (e, b)
         record {
           summed = sum;
-          found = λ i q. let n : c ≡ i = cc in rw (← n) (here e (ltb-true _ _ b));
+          found = λ i q. let n : record { column = c; idx = s.left } ≡ i = cc in rw (← n) (here e (ltb-true _ _ b));
           missing = λ q. cc;
         })
         (λ b.
@@ -161,10 +163,10 @@ pub record Ready (l : BinTable) (a : List ℕ) (choice row : ℕ) : Type 0 where
   pub choice_in_range : (ltb 0 choice && ltb choice (2 ^ l.tfields)) ≡ true
 
 and_l : (t u : Bool) → (t && u) ≡ true → t ≡ true
-and_l t u e = (both t u e).0
+and_l t u e = (and_parts t u e).0
 
 and_r : (t u : Bool) → (t && u) ≡ true → u ≡ true
-and_r t u e = (both t u e).1
+and_r t u e = (and_parts t u e).1
 
 pub ready_says : (l : BinTable) (a : List ℕ) (u : TableData) → ready (sizes_of l) (length a) u ≡ true → Ready l a u.choice u.row
 unfolding ready
@@ -180,6 +182,10 @@ ready_says l a u e =
       in_table = search (and_l, and_r) depth 12;
       choice_in_range = search (and_l, and_r) depth 12;
     }
+
+-- the columns in use are as many as the layout says, of its 64 slots
+pub ready_full : (l : BinTable) → length l.columns ≡ 64 → l.tfields ≤ 64 → length (columns_of l) ≡ l.tfields
+ready_full l e h = length-take l.tfields l.columns ∙ omega arith
 
 module _ (l : BinTable) (a : List ℕ) (choice row : ℕ) (y : Ready l a choice row) where
   pub ready_columns : l.tfields ≤ 64
@@ -237,18 +243,14 @@ module _ (l : BinTable) (a : List ℕ) (cursor : TableData) (at n : ℕ) (full :
 
 -- ---- the entry that was found
 
-or_true : (t : Bool) → (t || true) ≡ true
-or_true true = refl
-or_true false = refl
-
-module _ (l : BinTable) (a : List ℕ) (cursor : TableData) (s : Scan) (k : ℕ) (full : length (columns_of l) ≡ l.tfields)
+module _ (l : BinTable) (a : List ℕ) (cursor : TableData) (s : Scan) (k : Found) (full : length (columns_of l) ≡ l.tfields)
     (y : Ready l a cursor.choice cursor.row)
     (w : Scanned l a cursor.choice cursor.heap cursor.row cursor.passed l.tfields s) (ends : s.at ≡ l.naxis1)
     (f : s.found ≡ Some k) where
   abbrev rows_of : ℕ → List Entry
   rows_of = row_entries l a cursor.choice cursor.heap
 
-  pub found_in : FoundIn l a cursor.choice cursor.heap cursor.row cursor.passed l.tfields k s
+  pub found_in : FoundIn l a cursor.choice cursor.heap cursor.row cursor.passed l.tfields s.size k
   found_in = w.found k f
 
   pub found_fits : fits l a ≡ true
@@ -266,12 +268,12 @@ module _ (l : BinTable) (a : List ℕ) (cursor : TableData) (s : Scan) (k : ℕ)
   found_belongs : belongs l a cursor ≡ true
   found_belongs =
       summed_belongs l a cursor s.at s.size full y w.summed ends
-      (rw (lt-ltb cursor.passed (length (rows_of cursor.row)) inside) (or_true (eqb cursor.passed 0)))
+      (rw (lt-ltb cursor.passed (length (rows_of cursor.row)) inside) (or-true (eqb cursor.passed 0)))
 
   pub found_step : cursor_step l a cursor read_cell
-      ≡ with_cursor cursor.choice cursor.heap (entry_outcome (state_of cursor) s.size cursor.row cursor.passed (entry_in (column_of l k) a cursor.row k (field_of l a cursor.heap cursor.row k) s.left))
+      ≡ with_cursor cursor.choice cursor.heap (entry_outcome (state_of cursor) s.size cursor.row cursor.passed (entry_in (column_of l k.column) a cursor.row k.column (field_of l a cursor.heap cursor.row k.column) k.idx))
   found_step =
-      let e : get_or (rows_of cursor.row) cursor.passed (OutsideHeap 0) ≡ entry_in (column_of l k) a cursor.row k (field_of l a cursor.heap cursor.row k) s.left = rw row_is found_in.1.1.1 in
+      let e : get_or (rows_of cursor.row) cursor.passed (OutsideHeap 0) ≡ entry_in (column_of l k.column) a cursor.row k.column (field_of l a cursor.heap cursor.row k.column) k.idx = rw row_is found_in.1.1.1 in
       rw (← e, ← whole)
       (cell_at l a cursor found_belongs (entry_at cursor.row cursor.passed (get_or (rows_of cursor.row) cursor.passed (OutsideHeap 0)))
       (next_here rows_of l.naxis2 cursor.row cursor.passed (ready_row l a cursor.choice cursor.row y) inside))

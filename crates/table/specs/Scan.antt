@@ -12,11 +12,17 @@ use Rattle.walk.specs.declared.TableData.{TableData}
 use Rattle.walk.specs.Plain.{column_of, chosen}
 use Rattle.cell.specs.declared.Heap.{Heap}
 use Rattle.table.specs.declared.pass.Sizes.{Sizes}
+use Rattle.table.specs.declared.scan.Found.{Found}
 use Rattle.table.specs.declared.scan.Scan.{Scan}
+use Rattle.table.specs.declared.rows.RowSpan.{RowSpan}
 
 -- the heap of a layout, on or off
 abbrev pub heap_of : BinTable → Bool → Heap
 heap_of l followed = record { followed = followed; start = l.theap; end = data_size l }
+
+-- where the cursor's row starts, and the heap that its descriptors name
+abbrev pub span_of : BinTable → TableData → RowSpan
+span_of l u = record { start = u.row * l.naxis1; heap = heap_of l u.heap }
 
 -- the first chosen column of the k from c on, or the one after them
 unfoldable pub next_from : ℕ → ℕ → ℕ → ℕ
@@ -59,14 +65,11 @@ no_descriptor (Q ty) n = eqb n 0
 abbrev pub plain_column : Column → Bool → Bool
 plain_column column is = cond is (no_descriptor column.form column.count) true
 
--- the pass after column c, which has k entries, of which the bytes and entries so far are counted
-abbrev pub after_by : Option ℕ → ℕ → ℕ → ℕ → ℕ → ℕ → Scan
-after_by (Some f) at size left c k = record { at = at; size = size; left = left; found = Some f }
-after_by None at size left c k =
-    cond (ltb left k)
-    (record { at = at; size = size; left = left; found = Some c })
-    (record { at = at; size = size; left = left - k; found = None })
+-- what is found after column c, which has k entries, where `left` were still to be passed
+abbrev pub found_by : Option Found → ℕ → ℕ → ℕ → Option Found
+found_by (Some f) left c k = Some f
+found_by None left c k = cond (ltb left k) (Some (record { column = c; idx = left })) None
 
 -- the pass after column c, which has k entries
 abbrev pub after : Scan → Column → ℕ → ℕ → Scan
-after s column c k = after_by s.found (s.at + column_bytes column) (s.size + k) s.left c k
+after s column c k = record { at = s.at + column_bytes column; size = s.size + k; left = s.left - k; found = found_by s.found s.left c k }

@@ -81,14 +81,7 @@ pub fn next(layout: BinTable, area: &[u8], cursor: TableData) -> Stepped<Option<
 {
     // One pass over the columns gives the entry of the cursor's row. Where it gives none, the calls of `step` tell
     // why; by these alone a cell read of 41 columns takes 4.9 times the instructions.
-    let sizes = Sizes {
-        naxis1: layout.naxis1,
-        naxis2: layout.naxis2,
-        pcount: layout.pcount,
-        theap: layout.theap,
-        tfields: layout.tfields,
-    };
-    if pass::ready(sizes, area.len() as u64, cursor) {
+    if pass::ready(Sizes::from(&layout), area.len() as u64, cursor) {
         let start = cursor.row * layout.naxis1;
         let heap = Heap {
             followed: cursor.heap,
@@ -110,11 +103,12 @@ pub fn next(layout: BinTable, area: &[u8], cursor: TableData) -> Stepped<Option<
             let size = rows::column_size(area, start + scan.at, column, is_chosen, &heap);
             scan = scan::after(scan, column, c, size);
         }
-        if let Some(c) = scan.found {
+        if let Some(found) = scan.found {
             if scan.at == layout.naxis1 {
+                let c = found.column;
                 let column = layout.columns[c];
                 let at = start + column.start;
-                let entry = rows::entry_of(area, at, column, cursor, c, scan.left, &heap);
+                let entry = rows::entry_of(area, at, column, cursor, c, found.idx, &heap);
                 let place = NextPlace {
                     row: cursor.row,
                     passed: cursor.passed,

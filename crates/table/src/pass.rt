@@ -4,10 +4,10 @@ ghost use Rattle.std.specs.Prelude.{◌≡◌, cond, ◌&&◌, ◌-◌, eqb};
 ghost use Rattle.std.specs.Iterator.{at_most};
 ghost use Rattle.tform.specs.Width.{count_ok, field_items};
 ghost use Rattle.table.specs.Chosen.{NextChosen, all_chosen};
-ghost use Rattle.table.specs.Scan.{next_chosen, ready, no_descriptor, plain_column};
+ghost use Rattle.table.specs.Scan.{sizes_of, next_chosen, ready, no_descriptor, plain_column};
 
 use super::belong;
-use layout::{Column, NAXIS1_LIMIT, NAXIS2_LIMIT, PCOUNT_LIMIT, TFIELDS_LIMIT};
+use layout::{BinTable, Column, NAXIS1_LIMIT, NAXIS2_LIMIT, PCOUNT_LIMIT, TFIELDS_LIMIT};
 use tform::TFormType;
 use walk::TableData;
 
@@ -20,6 +20,20 @@ pub struct Sizes {
     pub pcount: u64,
     pub theap: u64,
     pub tfields: usize,
+}
+
+impl From<&BinTable> for Sizes {
+    ghost from_gives = { λ layout sizes. sizes ≡ sizes_of layout.now };
+
+    fn from(layout: &BinTable) -> Self {
+        Sizes {
+            naxis1: layout.naxis1,
+            naxis2: layout.naxis2,
+            pcount: layout.pcount,
+            theap: layout.theap,
+            tfields: layout.tfields,
+        }
+    }
 }
 
 // What a pass needs: the limits and sums of a layout but for its columns, an area that is long enough, and a row

@@ -128,8 +128,7 @@ fn entry_in(area: &[u8], column: Column, row: u64, c: usize, field: Field, idx: 
 {
     match field {
         Field::Items { ty, at, n: _ } => {
-            let width = tform::item_width(tform::letter(ty)) as u64;
-            let value = cell::read_item(area, at + idx * width, ty, column);
+            let value = cell::read_item(area, at + idx * tform::width(ty), ty, column);
             Entry::Cell(Cell {
                 row,
                 column: c,

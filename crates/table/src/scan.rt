@@ -5,14 +5,21 @@ ghost use Rattle.table.specs.Scan.{after};
 
 use layout::Column;
 
-// The bytes and the entries of the columns so far, and the column of the next entry, once it is found. Until then
-// `left` entries are still to be passed; after that it is the entry's index in its field.
+// Where an entry is found: its column, and its index in the column's field.
+#[derive(Clone, Copy)]
+pub struct Found {
+    pub column: usize,
+    pub idx: u64,
+}
+
+// The bytes and the entries of the columns so far, the entries that are still to be passed, and the next entry, once
+// it is found.
 #[derive(Clone, Copy)]
 pub struct Scan {
     pub at: u64,
     pub size: u64,
     pub left: u64,
-    pub found: Option<usize>,
+    pub found: Option<Found>,
 }
 
 // The pass after column c, which has so many entries.
@@ -22,16 +29,18 @@ pub fn after(scan: Scan, column: Column, c: usize, size: u64) -> Scan
     ensures { result ≡ after scan column c size }
 {
     let here = scan.found.is_none() && scan.left < size;
-    let found = if here { Some(c) } else { scan.found };
-    let left = if found.is_some() {
-        scan.left
+    let found = if here {
+        Some(Found {
+            column: c,
+            idx: scan.left,
+        })
     } else {
-        scan.left - size
+        scan.found
     };
     Scan {
         at: scan.at + tform::num_bytes_field(column.form, column.count),
         size: scan.size + size,
-        left,
+        left: scan.left.saturating_sub(size),
         found,
     }
 }

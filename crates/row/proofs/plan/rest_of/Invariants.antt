@@ -6,6 +6,6 @@ use Rattle.row.proofs.plan.rest_of.Given as goal
 abbrev pub invariant-loop-c : goal.invariant-loop-c
 invariant-loop-c l =
     record {
-      over : Over l.plan.cursor.choice l.row.layout.now.tfields l.c-iterator;
-      left : Left l.row.layout.now l.row.area.now l.plan l.total l.skip l.c-iterator.next;
+      over : Over l.row.cursor.choice l.row.layout.now.tfields l.c-iterator;
+      left : Left l.row.layout.now l.row.area.now l.row.cursor l.total l.skip l.c-iterator.next;
     }
