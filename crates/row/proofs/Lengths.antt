@@ -36,7 +36,7 @@ module _ (columns : List Column) (a : List ℕ) (p : RowPlan) where
 
   -- what is asked of one column
   abbrev pub FieldFits : ℕ → ℕ → ℕ → ℕ → Type 0
-  FieldFits c skip at m = (p.start + (get_or columns c no_column).start < 2 ^ 64) × (PlanOk (plan_at columns a p c skip) × (at + (plan_at columns a p c skip).n ≤ m))
+  FieldFits c skip at m = (p.span.start + (get_or columns c no_column).start < 2 ^ 64) × (PlanOk (plan_at columns a p c skip) × (at + (plan_at columns a p c skip).n ≤ m))
 
   pub fits_more : (c k skip at m : ℕ) → RowFits columns a p c (suc k) skip at m
       → FieldFits c skip at m × RowFits columns a p (suc c) k (plan_at columns a p c skip).skip (at + (plan_at columns a p c skip).n) m
