@@ -15,6 +15,7 @@ use Rattle.cell.specs.declared.Heap.{Heap}
 use Rattle.table.specs.Scan.{heap_of}
 use Rattle.table.proofs.ToNext.{next_from_lem}
 use Rattle.table.proofs.Columns.{Gave, gave, ended_from}
+use Rattle.table.proofs.rows.TableRow.entry.Goals.{After-read_field-field}
 use Rattle.table.proofs.rows.TableRow.entry.Goals as goal
 
 -- the field x of column c, where the code reads it
@@ -54,46 +55,49 @@ loop-c-init c =
       same = ap (λ (es : List Entry). get_or es u.passed (OutsideHeap 0)) e;
     }
 
+-- the iterator gave a column, whose field was read
+module _ (c : After-read_field-field) where
+  given : Gave c.args.self.now.cursor.choice c.args.self.now.layout.now.tfields c.loop-c.c-iterator.next c.in-Some.c c.next.new.self
+  given =
+      gave c.args.self.now.cursor.choice c.args.self.now.layout.now.tfields c.span-start.ensures.few c.loop-c.c-iterator c.next.new.self c.loop-c.invariant.over
+      c.in-Some.c c.in-Some.ensures.steps
+
+  own : c.read_field-field.result ≡ field_of c.args.self.now.layout.now c.args.self.now.area.now c.args.self.now.cursor.heap c.args.self.now.cursor.row c.in-Some.c
+  own =
+      field_is c.args.self.now.layout.now c.args.self.now.area.now c.args.self.now.cursor c.in-Some.c _ _ c.span-start.ensures.start c.span-start.ensures.heap _
+      c.read_field-field.ensures
+
 pub entry_in-requires : goal.entry_in-requires
 entry_in-requires c =
-    let l = c.args.self.now.layout.now in
-    let a = c.args.self.now.area.now in
-    let u = c.args.self.now.cursor in
-    let s = c.loop-c in
-    let g = gave u.choice l.tfields c.span-start.ensures.few s.c-iterator c.next.new.self s.invariant.over c.in-Some.c c.in-Some.ensures.steps in
-    let f = field_is l a u c.in-Some.c _ _ c.span-start.ensures.start c.span-start.ensures.heap _ c.read_field-field.ensures in (
+    let r = c.args.self.now in
+    let i = (goal.at.entry_in-requires c).After-read_field-field in (
       rw c.field_size-size.ensures at c.if-left-size.true,
-      subst (ItemsInside data_limit) (sym f)
-          (items_bound l (fits_layout l a c.args.self.now.fit) a u.heap u.row c.in-Some.c c.args.self.now.inside g.column),
+      subst (ItemsInside data_limit) (sym (own i))
+          (items_bound r.layout.now (fits_layout r.layout.now r.area.now r.fit) r.area.now r.cursor.heap r.cursor.row c.in-Some.c r.inside (given i).column),
     )
 
 pub returns-then-left-size : goal.returns-then-left-size
 returns-then-left-size c =
-    let l = c.args.self.now.layout.now in
-    let a = c.args.self.now.area.now in
-    let u = c.args.self.now.cursor in
+    let r = c.args.self.now in
     let s = c.loop-c in
-    let g = gave u.choice l.tfields c.span-start.ensures.few s.c-iterator c.next.new.self s.invariant.over c.in-Some.c c.in-Some.ensures.steps in
-    let f = field_is l a u c.in-Some.c _ _ c.span-start.ensures.start c.span-start.ensures.heap _ c.read_field-field.ensures in
+    let i = (goal.at.returns-then-left-size c).After-read_field-field in
     c.entry_in.ensures
     ∙ sym
     (s.invariant.same
-    ∙ here l a u s.c-iterator.next c.in-Some.c s.left _ _ g c.read_field-field.result f c.field_size-size.ensures c.if-left-size.true)
+    ∙ here r.layout.now r.area.now r.cursor s.c-iterator.next c.in-Some.c s.left _ _ (given i) _ (own i) c.field_size-size.ensures c.if-left-size.true)
 
 pub loop-c-preserved : goal.loop-c-preserved
 loop-c-preserved c =
-    let l = c.args.self.now.layout.now in
-    let a = c.args.self.now.area.now in
-    let u = c.args.self.now.cursor in
+    let r = c.args.self.now in
     let s = c.loop-c in
-    let g = gave u.choice l.tfields c.span-start.ensures.few s.c-iterator c.next.new.self s.invariant.over c.in-Some.c c.in-Some.ensures.steps in
-    let f = field_is l a u c.in-Some.c _ _ c.span-start.ensures.start c.span-start.ensures.heap _ c.read_field-field.ensures in
+    let i = (goal.at.loop-c-preserved c).After-read_field-field in
     record {
-      over = g.over;
-      inside = rw g.later (inside l a u s.c-iterator.next c.in-Some.c s.left _ _ g c.read_field-field.result f c.field_size-size.ensures c.if-left-size.false s.invariant.inside);
-      same = rw g.later
+      over = (given i).over;
+      inside = rw (given i).later
+          (inside r.layout.now r.area.now r.cursor s.c-iterator.next c.in-Some.c s.left _ _ (given i) _ (own i) c.field_size-size.ensures c.if-left-size.false s.invariant.inside);
+      same = rw (given i).later
           (s.invariant.same
-          ∙ later l a u s.c-iterator.next c.in-Some.c s.left _ _ g c.read_field-field.result f c.field_size-size.ensures c.if-left-size.false);
+          ∙ later r.layout.now r.area.now r.cursor s.c-iterator.next c.in-Some.c s.left _ _ (given i) _ (own i) c.field_size-size.ensures c.if-left-size.false);
     }
 
 pub returns : goal.returns

@@ -3,7 +3,7 @@ use Rattle.std.proofs.Common.{◌≡◌, ℕ, suc, ◌+◌, ◌*◌, List, lengt
 use Rattle.layout.specs.declared.BinTable.{BinTable}
 use Rattle.cell.specs.Field.{field, size_of}
 use Rattle.walk.specs.declared.TableData.{TableData}
-use Rattle.walk.specs.Plain.{column_of, field_of, column_size}
+use Rattle.walk.specs.Plain.{column_of, field_of, column_size, row_entries}
 use Rattle.walk.proofs.Inside.{fits_layout, row_bound}
 use Rattle.walk.proofs.Laws.{from, from_row, length_from}
 use Rattle.table.specs.declared.pass.Chosen.{Chosen}
@@ -11,6 +11,7 @@ use Rattle.cell.specs.declared.Heap.{Heap}
 use Rattle.table.specs.Scan.{heap_of}
 use Rattle.table.proofs.ToNext.{next_from_lem}
 use Rattle.table.proofs.Columns.{Gave, gave, ended_from}
+use Rattle.table.proofs.rows.TableRow.size.Goals.{In-Some}
 use Rattle.table.proofs.rows.TableRow.size.Goals as goal
 
 -- with the entries of a column that the iterator gave, the count goes on
@@ -31,37 +32,37 @@ loop-c-init c =
       counted = rw (from_row c.args.self.now.layout.now c.args.self.now.area.now c.args.self.now.cursor.choice c.args.self.now.cursor.heap c.args.self.now.cursor.row c.args.self.now.inside) (omega arith);
     }
 
+-- the iterator gave a column
+module _ (c : In-Some) where
+  given : Gave c.args.self.now.cursor.choice c.args.self.now.layout.now.tfields c.loop-c.c-iterator.next c.in-Some.c c.next.new.self
+  given =
+      gave c.args.self.now.cursor.choice c.args.self.now.layout.now.tfields c.span-start.ensures.few c.loop-c.c-iterator c.next.new.self c.loop-c.invariant.over
+      c.in-Some.c c.in-Some.ensures.steps
+
+  grown :
+      let r = c.args.self.now in
+      let h = c.span-start.result.heap in
+      c.loop-c.total + (size_of (field r.area.now (c.span-start.result.start + (column_of r.layout.now c.in-Some.c).start) (column_of r.layout.now c.in-Some.c) h.followed h.start h.end)
+      + length (from r.layout.now r.area.now r.cursor.choice r.cursor.heap r.cursor.row (suc c.in-Some.c)))
+      ≡ length (row_entries r.layout.now r.area.now r.cursor.choice r.cursor.heap r.cursor.row)
+  grown =
+      grows c.args.self.now.layout.now c.args.self.now.area.now c.args.self.now.cursor c.span-start.result.start c.loop-c.c-iterator.next c.in-Some.c c.loop-c.total _
+      c.span-start.result.heap c.next.new.self c.span-start.ensures.start c.span-start.ensures.heap given c.loop-c.invariant.counted
+
 pub overflow_add-total : goal.overflow_add-total
 overflow_add-total c =
-    let l = c.args.self.now.layout.now in
-    let a = c.args.self.now.area.now in
-    let u = c.args.self.now.cursor in
-    let s = c.loop-c in
-    let g = gave u.choice l.tfields c.span-start.ensures.few s.c-iterator c.next.new.self s.invariant.over c.in-Some.c c.in-Some.ensures.steps in
+    let r = c.args.self.now in
     omega (
       arith,
-      grows l a u c.span-start.result.start s.c-iterator.next c.in-Some.c s.total _ c.span-start.result.heap c.next.new.self
-          c.span-start.ensures.start c.span-start.ensures.heap g s.invariant.counted,
+      grown (goal.at.overflow_add-total c).In-Some,
       c.field_entries-total.ensures,
-      row_bound l (fits_layout l a c.args.self.now.fit) a u.choice u.heap u.row,
+      row_bound r.layout.now (fits_layout r.layout.now r.area.now r.fit) r.area.now r.cursor.choice r.cursor.heap r.cursor.row,
     )
 
 pub loop-c-preserved : goal.loop-c-preserved
 loop-c-preserved c =
-    let l = c.args.self.now.layout.now in
-    let a = c.args.self.now.area.now in
-    let u = c.args.self.now.cursor in
-    let s = c.loop-c in
-    let g = gave u.choice l.tfields c.span-start.ensures.few s.c-iterator c.next.new.self s.invariant.over c.in-Some.c c.in-Some.ensures.steps in
-    record {
-      over = g.over;
-      counted = rw (g.later, c.field_entries-total.ensures)
-          (omega (
-            arith,
-            grows l a u c.span-start.result.start s.c-iterator.next c.in-Some.c s.total _ c.span-start.result.heap c.next.new.self
-                c.span-start.ensures.start c.span-start.ensures.heap g s.invariant.counted,
-          ));
-    }
+    let i = (goal.at.loop-c-preserved c).In-Some in
+    record { over = (given i).over; counted = rw ((given i).later, c.field_entries-total.ensures) (omega (arith, grown i)) }
 
 pub returns : goal.returns
 returns c =
