@@ -83,7 +83,8 @@ pub enum Field {
     OutsideHeap,
 }
 
-// The heap of a table, followed or not, from its first byte up to, and without, byte `end` of the data area.
+// The heap of a table, followed or not, from its first byte up to, and without, byte `end` of the data area. No Option
+// round the rest: `array` asks where the heap lies in either case.
 #[derive(Clone, Copy)]
 pub struct Heap {
     pub followed: bool,

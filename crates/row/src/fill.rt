@@ -58,7 +58,8 @@ fn fill_field(list: &mut [Cell], at: usize, area: &[u8], plan: FieldPlan)
     }
 }
 
-// The cells of a row, chosen field by chosen field, into the front of the list.
+// The cells of a row, chosen field by chosen field, into the front of the list. `tfields ≤ 64` is no ghost field:
+// anybody can make a layout.
 pub fn fill_row(list: &mut [Cell], columns: [Column; TFIELDS_LIMIT], area: &[u8], plan: RowPlan)
     requires { (plan.tfields ≤ 64)
         × RowFits columns area.now plan 0 plan.tfields plan.cursor.passed 0 (length list.old) }

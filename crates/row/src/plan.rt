@@ -40,7 +40,8 @@ pub struct FieldPlan {
     pub skip: u64,
 }
 
-// The columns of a layout, as one value: the loop that stores then copies the columns alone, and once a row.
+// The columns of a layout, as one value: the loop that stores then copies the columns alone, and once a row
+// (docs/DECISIONS.md).
 pub fn columns(layout: BinTable) -> [Column; TFIELDS_LIMIT]
     ensures { result ≡ layout.columns }
 {

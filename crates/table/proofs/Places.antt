@@ -17,9 +17,13 @@ IsNone (Some p) = ⊥
 IsNone None = Unit {0}
 
 module _ (rows : ℕ → List Entry) (n : ℕ) where
-  pub place_at : (x : Next) (q : NextPlace) → IsNext rows n x → next_place rows x ≡ Some q
-      → (x ≡ entry_at q.row q.passed (get_or (rows q.row) q.passed (OutsideHeap 0)))
+  -- the search for the next entry ended at this place
+  abbrev pub IsPlace : Next → NextPlace → Type 0
+  IsPlace x q =
+      (x ≡ entry_at q.row q.passed (get_or (rows q.row) q.passed (OutsideHeap 0)))
       × ((q.size ≡ length (rows q.row)) × ((q.passed < q.size) × (q.row < n)))
+
+  pub place_at : (x : Next) (q : NextPlace) → IsNext rows n x → next_place rows x ≡ Some q → IsPlace x q
   place_at no_entry q h e = absurd (subst IsNone e tt)
   place_at (entry_at r p x) q h e =
       let w : ◌≡◌ {A = NextPlace} (record { row = r; passed = p; size = length (rows r) }) q = cc in

@@ -12,7 +12,7 @@ pub fn chosen(choice: u64, c: usize) -> bool
     c < TFIELDS_LIMIT && (choice >> c) % 2 == 1
 }
 
-// Those of a layout's columns that are wanted.
+// Those of a layout's columns that are wanted. `tfields ≤ 64` is no ghost field: anybody can make a layout.
 pub fn columns<F: Fn(usize) -> bool>(tfields: usize, wanted: F) -> u64
     requires few { tfields ≤ 64 }
     requires callable { F.IsAlwaysCallable wanted }

@@ -83,6 +83,7 @@ pub fn next(layout: BinTable, area: &[u8], cursor: TableData) -> Stepped<Option<
     // why; by these alone a cell read of 41 columns takes 4.9 times the instructions.
     if pass::ready(Sizes::from(&layout), area.len() as u64, cursor) {
         let start = cursor.row * layout.naxis1;
+        // Not by TableRow, which asks for what the pass has yet to find.
         let heap = Heap {
             followed: cursor.heap,
             start: layout.theap,

@@ -146,7 +146,8 @@ fn entry_in(area: &[u8], column: Column, row: u64, c: usize, field: Field, idx: 
     }
 }
 
-// The entry at an index of the field of column c, which lies at a place.
+// The entry at an index of the field of column c, which lies at a place. Seven values and no struct: the cell read, its
+// only caller, has them apart, and `entry_in` takes those of them that the long way has too.
 pub fn entry_of(
     area: &[u8],
     at: u64,
@@ -165,7 +166,8 @@ pub fn entry_of(
     entry_in(area, column, cursor.row, c, field, idx)
 }
 
-// Whether a chosen column holds an item or a descriptor. If none does, no row has an entry.
+// Whether a chosen column holds an item or a descriptor. If none does, no row has an entry. `tfields ≤ 64` is no ghost
+// field: anybody can make a layout.
 fn any_items(layout: BinTable, choice: u64) -> bool
     requires { layout.tfields ≤ 64 }
     ensures { result ≡ any_items layout choice 0 layout.tfields }

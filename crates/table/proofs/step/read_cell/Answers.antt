@@ -1,38 +1,40 @@
 -- `read_cell` meets its contract: the place that was found is that of the next entry.
-use Rattle.std.proofs.Common.{◌-◌, sym, ◌∙◌, arith}
+use Rattle.std.proofs.Common.{ℕ, List, ◌-◌, sym, ◌∙◌, arith}
+use Rattle.walk.specs.declared.Entry.{Entry}
 use Rattle.walk.specs.Plain.{row_entries}
 use Rattle.walk.specs.Walk.{no_entry, next}
 use Rattle.walk.proofs.Inside.{fits_limits}
 use Rattle.walk.proofs.Laws.{is_next}
 use Rattle.walk.proofs.Steps.{belongs_fits, cell_at}
-use Rattle.table.proofs.Places.{place_at, place_none}
+use Rattle.table.proofs.Places.{IsPlace, place_at, place_none}
+use Rattle.table.proofs.step.read_cell.Goals.{In-Some}
 use Rattle.table.proofs.step.read_cell.Goals as goal
 
 pub find_entry-requires : goal.find_entry-requires
 find_entry-requires c = belongs_fits c.args.layout c.args.area.now c.args.cursor c.requires
 
+-- the place of the next entry was found
+module _ (c : In-Some) where
+  abbrev rows : ℕ → List Entry
+  rows = row_entries c.args.layout c.args.area.now c.args.cursor.choice c.args.cursor.heap
+
+  found : IsPlace rows c.args.layout.naxis2 (next rows c.args.layout.naxis2 (c.args.layout.naxis2 - c.args.cursor.row) c.args.cursor.row c.args.cursor.passed) c.in-Some.place
+  found =
+      place_at rows c.args.layout.naxis2 _ c.in-Some.place (is_next rows c.args.layout.naxis2 c.args.cursor.row c.args.cursor.passed)
+      (sym c.find_entry.ensures ∙ c.in-Some.is)
+
 pub invariant_of-here : goal.invariant_of-here
 invariant_of-here c =
-    let rows = row_entries c.args.layout c.args.area.now c.args.cursor.choice c.args.cursor.heap in
-    let n = c.args.layout.naxis2 in
-    let f = place_at rows n (next rows n (n - c.args.cursor.row) c.args.cursor.row c.args.cursor.passed) c.in-Some.place
-    (is_next rows n c.args.cursor.row c.args.cursor.passed) (sym c.find_entry.ensures ∙ c.in-Some.is) in
+    let f = found (goal.at.invariant_of-here c).In-Some in
     record { fit = belongs_fits c.args.layout c.args.area.now c.args.cursor c.requires; inside = rw c.placed-2.ensures f.1.1.1 }
 
 pub entry-requires : goal.entry-requires
 entry-requires c =
-    let rows = row_entries c.args.layout c.args.area.now c.args.cursor.choice c.args.cursor.heap in
-    let n = c.args.layout.naxis2 in
-    let f = place_at rows n (next rows n (n - c.args.cursor.row) c.args.cursor.row c.args.cursor.passed) c.in-Some.place
-    (is_next rows n c.args.cursor.row c.args.cursor.passed) (sym c.find_entry.ensures ∙ c.in-Some.is) in
-    rw c.placed-2.ensures (rw f.1.0 at f.1.1.0)
+    let f = found (goal.at.entry-requires c).In-Some in rw c.placed-2.ensures (rw f.1.0 at f.1.1.0)
 
 pub read_entry-requires : goal.read_entry-requires
 read_entry-requires c =
-    let rows = row_entries c.args.layout c.args.area.now c.args.cursor.choice c.args.cursor.heap in
-    let n = c.args.layout.naxis2 in
-    let f = place_at rows n (next rows n (n - c.args.cursor.row) c.args.cursor.row c.args.cursor.passed) c.in-Some.place
-    (is_next rows n c.args.cursor.row c.args.cursor.passed) (sym c.find_entry.ensures ∙ c.in-Some.is) in (
+    let f = found (goal.at.read_entry-requires c).In-Some in (
       omega (
         arith,
         f.1.1.1,
@@ -43,10 +45,7 @@ read_entry-requires c =
 
 pub returns : goal.returns
 returns c =
-    let rows = row_entries c.args.layout c.args.area.now c.args.cursor.choice c.args.cursor.heap in
-    let n = c.args.layout.naxis2 in
-    let f = place_at rows n (next rows n (n - c.args.cursor.row) c.args.cursor.row c.args.cursor.passed) c.in-Some.place
-    (is_next rows n c.args.cursor.row c.args.cursor.passed) (sym c.find_entry.ensures ∙ c.in-Some.is) in
+    let f = found (goal.at.returns c).In-Some in
     c.read_entry.ensures
     ∙ rw (c.entry.ensures, c.placed-2.ensures, f.1.0) (sym (cell_at c.args.layout c.args.area.now c.args.cursor c.requires _ f.0))
 
