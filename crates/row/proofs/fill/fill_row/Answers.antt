@@ -36,7 +36,7 @@ module _ (c : In-Some) where
       gave c.args.plan.cursor.choice c.args.plan.tfields c.requires.0 c.loop-c.c-iterator c.next.new.self c.loop-c.invariant.over c.in-Some.c
       c.in-Some.ensures.steps
 
-  field_fits : FieldFits c.args.columns c.args.area.now c.args.plan c.in-Some.c c.loop-c.skip c.loop-c.at (length c.loop-c.initial.list)
+  field_fits : FieldFits c.args.columns c.args.area.now c.args.plan c.in-Some.c c.loop-c.skip c.loop-c.at (length c.args.list.now)
   field_fits = (on c.args.columns c.args.area.now c.args.plan c.loop-c.c-iterator.next c.in-Some.c c.loop-c.skip c.loop-c.at _ given _ c.loop-c.invariant.fits).0
 
 pub field_plan-planned-requires : goal.field_plan-planned-requires
