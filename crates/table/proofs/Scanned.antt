@@ -10,7 +10,7 @@ use native.Mathlib.Numerals.{add-one}
 use native.Mathlib.Omega.{arith}
 use lib.ListN.{length, get_or, drop, length-take}
 use lib.Dec.{eqb, leb, ltb}
-use borrow.Author.Tests.{ltb-true, ltb-false, leb-true, lt-ltb, eq-eqb}
+use borrow.Author.Tests.{ltb-true, ltb-false, leb-true, lt-ltb, lt-leb, le-leb, eq-eqb}
 use Rattle.ascii.proofs.Cases.{by_test, either}
 use Rattle.tform.specs.Width.{count_ok}
 use Rattle.layout.specs.declared.BinTable.{BinTable}
@@ -84,64 +84,63 @@ module _ (l : BinTable) (a : List ℕ) (choice : ℕ) (heap : Bool) (r p : ℕ) 
       (p < n) × ((f.column < c) × ((f.idx < size_of (field_of l a heap r f.column))
       × (sought ≡ entry_in (column_of l f.column) a r f.column (field_of l a heap r f.column) f.idx)))
 
-  -- it stands further on, after `left` entries more
-  abbrev pub FurtherOn : ℕ → Scan → Type 0
-  FurtherOn c s = (p ≡ s.size + s.left) × (sought ≡ get_or (from l a choice heap r c) s.left (OutsideHeap 0))
+  -- it stands further on, after the row's first n entries
+  abbrev pub FurtherOn : ℕ → ℕ → Type 0
+  FurtherOn c n = (n ≤ p) × (sought ≡ get_or (from l a choice heap r c) (p - n) (OutsideHeap 0))
 
   -- what the pass says after the first c columns
   pub record Scanned (c : ℕ) (s : Scan) : Type 0 where
     pub summed : Summed l a choice heap r c s.at s.size
     pub found : (f : Found) → s.found ≡ Some f → FoundIn c s.size f
-    pub missing : s.found ≡ None → FurtherOn c s
+    pub missing : s.found ≡ None → FurtherOn c s.size
 
   -- column c comes next, with k entries
   module _ (full : length (columns_of l) ≡ l.tfields) (c k : ℕ) (s : Scan) (h : c < l.tfields) (w : Scanned c s)
       (few : k ≤ 17594467745808) (count : count_ok (column_of l c).form (column_of l c).count ≡ true) (at : (column_of l c).start ≡ s.at)
       (sized : k ≡ column_size l a choice heap r c) where
     abbrev t : Scan
-    t = after s (column_of l c) c k
+    t = after s (column_of l c) c k p
 
     sum : Summed l a choice heap r (suc c) (s.at + column_bytes (column_of l c)) (s.size + k)
     sum = summed_next l a choice heap r full c s.at s.size k h w.summed few count at sized
 
-    here : s.found ≡ None → s.left < k → FoundIn (suc c) (s.size + k) (record { column = c; idx = s.left })
+    here : s.found ≡ None → p < s.size + k → FoundIn (suc c) (s.size + k) (record { column = c; idx = p - s.size })
     here e q =
         let m = w.missing e in
-        let i : s.left < column_size l a choice heap r c = rw (← sized) q in (
-          omega (arith, m.0, q),
-          (
-            omega arith,
-            (size_chosen l a choice heap r c s.left i, m.1 ∙ at_here l a choice heap r c s.left (OutsideHeap 0) h i),
-          ),
-        )
+        let n : p - s.size < k = omega (arith, q, m.0) in
+        let i : p - s.size < column_size l a choice heap r c = rw (← sized) n in
+        (q, (omega arith, (size_chosen l a choice heap r c (p - s.size) i, m.1 ∙ at_here l a choice heap r c (p - s.size) (OutsideHeap 0) h i)))
 
-    later : s.found ≡ None → k ≤ s.left → FurtherOn (suc c) (record { at = s.at + column_bytes (column_of l c); size = s.size + k; left = s.left - k; found = None })
+    later : s.found ≡ None → s.size + k ≤ p → FurtherOn (suc c) (s.size + k)
     later e q =
         let m = w.missing e in
-        let i : column_size l a choice heap r c ≤ s.left = rw (← sized) q in
-        (omega (arith, m.0, q), m.1 ∙ rw sized (at_later l a choice heap r c s.left (OutsideHeap 0) h i))
+        let n : k ≤ p - s.size = omega (arith, q) in
+        let i : column_size l a choice heap r c ≤ p - s.size = rw (← sized) n in
+        let d : p - (s.size + k) ≡ p - s.size - column_size l a choice heap r c = omega (arith, sized) in
+        (q, m.1 ∙ rw d (at_later l a choice heap r c (p - s.size) (OutsideHeap 0) h i))
 
     pub scanned_next : Scanned (suc c) t
     scanned_next =
         by_option s.found
         (λ j e.
-        rw e
+        rw (lt-leb s.size p (w.found j e).0)
         record {
           summed = sum;
-          found = λ i q. let f = w.found i (e ∙ q) in (omega (arith, f.0), (omega (arith, f.1.0), f.1.1));
+          found = λ i q. let f = w.found i q in (omega (arith, f.0), (omega (arith, f.1.0), f.1.1));
           missing = λ q. cc;
         })
         (λ e.
-        either (ltb s.left k)
+        let o = le-leb s.size p (w.missing e).0 in
+        either (ltb p (s.size + k))
         (λ b.
-        rw (e, b)
+        rw (o, b)
         record {
           summed = sum;
-          found = λ i q. let n : record { column = c; idx = s.left } ≡ i = cc in rw (← n) (here e (ltb-true _ _ b));
+          found = λ i q. let n : record { column = c; idx = p - s.size } ≡ i = cc in rw (← n) (here e (ltb-true _ _ b));
           missing = λ q. cc;
         })
         (λ b.
-        rw (e, b)
+        rw (o, b)
         record {
           summed = sum;
           found = λ i q. cc;

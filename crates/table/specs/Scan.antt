@@ -1,7 +1,7 @@
 -- One pass over the columns of a cursor's row, as the code of the cell read and the row read has it. The steps' contracts are not stated by these;
 -- proofs/Scanned shows that an entry that a pass finds is the plain list's.
 -- Assumes nothing.
-use Rattle.std.specs.Prelude.{ℕ, zero, suc, ◌+◌, ◌-◌, ◌*◌, ◌^◌, Bool, true, false, cond, ◌&&◌, ◌||◌, eqb, leb, ltb, Option, Some, None}
+use Rattle.std.specs.Prelude.{ℕ, zero, suc, ◌+◌, ◌-◌, ◌*◌, ◌^◌, Bool, true, false, cond, ◌&&◌, ◌||◌, eqb, leb, ltb, Some}
 use Rattle.tform.specs.declared.TFormType.{TFormType}
 use Rattle.tform.specs.declared.TFormType.TheVariants.{Items, P, Q}
 use Rattle.tform.specs.Width.{field_items}
@@ -12,7 +12,6 @@ use Rattle.walk.specs.declared.TableData.{TableData}
 use Rattle.walk.specs.Plain.{column_of, chosen}
 use Rattle.cell.specs.declared.Heap.{Heap}
 use Rattle.table.specs.declared.pass.Sizes.{Sizes}
-use Rattle.table.specs.declared.scan.Found.{Found}
 use Rattle.table.specs.declared.scan.Scan.{Scan}
 use Rattle.table.specs.declared.rows.RowSpan.{RowSpan}
 
@@ -65,11 +64,11 @@ no_descriptor (Q ty) n = eqb n 0
 abbrev pub plain_column : Column → Bool → Bool
 plain_column column is = cond is (no_descriptor column.form column.count) true
 
--- what is found after column c, which has k entries, where `left` were still to be passed
-abbrev pub found_by : Option Found → ℕ → ℕ → ℕ → Option Found
-found_by (Some f) left c k = Some f
-found_by None left c k = cond (ltb left k) (Some (record { column = c; idx = left })) None
-
--- the pass after column c, which has k entries
-abbrev pub after : Scan → Column → ℕ → ℕ → Scan
-after s column c k = record { at = s.at + column_bytes column; size = s.size + k; left = s.left - k; found = found_by s.found s.left c k }
+-- the pass after column c, which has k entries, where p of the row stand before the next entry
+abbrev pub after : Scan → Column → ℕ → ℕ → ℕ → Scan
+after s column c k p =
+    record {
+      at = s.at + column_bytes column;
+      size = s.size + k;
+      found = cond (leb s.size p && ltb p (s.size + k)) (Some (record { column = c; idx = p - s.size })) s.found;
+    }

@@ -92,7 +92,6 @@ pub fn next(layout: BinTable, area: &[u8], cursor: TableData) -> Stepped<Option<
         let mut scan = Scan {
             at: 0,
             size: 0,
-            left: cursor.passed,
             found: None,
         };
         for c in 0..layout.tfields {
@@ -102,7 +101,7 @@ pub fn next(layout: BinTable, area: &[u8], cursor: TableData) -> Stepped<Option<
             }
             let is_chosen = chosen(cursor.choice, c);
             let size = rows::column_size(area, start + scan.at, column, is_chosen, &heap);
-            scan = scan::after(scan, column, c, size);
+            scan = scan::after(scan, column, c, size, cursor.passed);
         }
         if let Some(found) = scan.found {
             if scan.at == layout.naxis1 {

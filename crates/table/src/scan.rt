@@ -12,35 +12,32 @@ pub struct Found {
     pub idx: u64,
 }
 
-// The bytes and the entries of the columns so far, the entries that are still to be passed, and the next entry, once
-// it is found.
+// The bytes and the entries of the columns so far, and the next entry, once it is found.
 #[derive(Clone, Copy)]
 pub struct Scan {
     pub at: u64,
     pub size: u64,
-    pub left: u64,
     pub found: Option<Found>,
 }
 
-// The pass after column c, which has so many entries.
+// The pass after column c, which has so many entries. The next entry is the one with `passed` of the row before it.
 #[tactic(auto, using(layout::proofs::Ok::column_limit))]
-pub fn after(scan: Scan, column: Column, c: usize, size: u64) -> Scan
+pub fn after(scan: Scan, column: Column, c: usize, size: u64, passed: u64) -> Scan
     requires { (count_ok column.form column.count ≡ true) × ((scan.at ≤ 8589935616) × (scan.size + size < 2 ^ 64)) }
-    ensures { result ≡ after scan column c size }
+    ensures { result ≡ after scan column c size passed }
 {
-    let here = scan.found.is_none() && scan.left < size;
-    let found = if here {
+    let end = scan.size + size;
+    let found = if scan.size <= passed && passed < end {
         Some(Found {
             column: c,
-            idx: scan.left,
+            idx: passed - scan.size,
         })
     } else {
         scan.found
     };
     Scan {
         at: scan.at + tform::num_bytes_field(column.form, column.count),
-        size: scan.size + size,
-        left: scan.left.saturating_sub(size),
+        size: end,
         found,
     }
 }
