@@ -1,4 +1,5 @@
-// Reading a row into a lent list, and the steps over a lent cursor. Layout, area and cursor are no struct, as in `table`.
+// Reading a row into a lent list, and the steps over a lent cursor. Layout, area and cursor are no struct, as in
+// `table`.
 #![tactic(auto)]
 
 mod fill;

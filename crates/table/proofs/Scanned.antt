@@ -161,25 +161,26 @@ pub record Ready (l : BinTable) (a : List ℕ) (choice row : ℕ) : Type 0 where
   pub in_table : ltb row l.naxis2 ≡ true
   pub choice_in_range : (ltb 0 choice && ltb choice (2 ^ l.tfields)) ≡ true
 
-and_l : (t u : Bool) → (t && u) ≡ true → t ≡ true
-and_l t u e = (and_parts t u e).0
-
-and_r : (t u : Bool) → (t && u) ≡ true → u ≡ true
-and_r t u e = (and_parts t u e).1
-
 pub ready_says : (l : BinTable) (a : List ℕ) (u : TableData) → ready (sizes_of l) (length a) u ≡ true → Ready l a u.choice u.row
 unfolding ready
 ready_says l a u e =
+    let rows = (and_parts _ _ e).1 in
+    let heap = (and_parts _ _ rows).1 in
+    let columns = (and_parts _ _ heap).1 in
+    let from = (and_parts _ _ columns).1 in
+    let to = (and_parts _ _ from).1 in
+    let area = (and_parts _ _ to).1 in
+    let row = (and_parts _ _ area).1 in
     record {
-      row_bytes = search and_l depth 12;
-      rows = search (and_l, and_r) depth 12;
-      heap_bytes = search (and_l, and_r) depth 12;
-      columns = search (and_l, and_r) depth 12;
-      heap_from = search (and_l, and_r) depth 12;
-      heap_to = search (and_l, and_r) depth 12;
-      area = search (and_l, and_r) depth 12;
-      in_table = search (and_l, and_r) depth 12;
-      choice_in_range = search (and_l, and_r) depth 12;
+      row_bytes = (and_parts _ _ e).0;
+      rows = (and_parts _ _ rows).0;
+      heap_bytes = (and_parts _ _ heap).0;
+      columns = (and_parts _ _ columns).0;
+      heap_from = (and_parts _ _ from).0;
+      heap_to = (and_parts _ _ to).0;
+      area = (and_parts _ _ area).0;
+      in_table = (and_parts _ _ row).0;
+      choice_in_range = (and_parts _ _ row).1;
     }
 
 -- the columns in use are as many as the layout says, of its 64 slots
