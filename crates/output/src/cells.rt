@@ -2,29 +2,25 @@
 ghost use Rattle.std.specs.Prelude.{◌≡◌};
 ghost use Rattle.output.specs.Next.{cells_next, left_in, lines_by};
 
-use crate::{Next, Parts, State};
+use crate::{Next, Parts, State, refused_next};
 use cell::Cell;
 use listing::Line;
-use refusal::Refusal;
-use walk::TableData;
+use walk::{Stepped, TableData};
 
 // The line of a cell read's answer, and the state after it.
-fn answered(answer: Result<Option<Cell>, Refusal>, after: TableData) -> Next
-    ensures { result ≡ cells_next answer after }
+fn answered(stepped: Stepped<Option<Cell>>) -> Next
+    ensures { result ≡ cells_next stepped.answer stepped.cursor }
 {
-    match answer {
+    match stepped.answer {
         Ok(Some(cell)) => Next {
             line: Line::Cell(cell),
-            state: State::Cells(after),
+            state: State::Cells(stepped.cursor),
         },
         Ok(None) => Next {
-            line: Line::End(after.count as u64),
+            line: Line::End(stepped.cursor.count as u64),
             state: State::Done,
         },
-        Err(refusal) => Next {
-            line: Line::Refused(refusal),
-            state: State::Done,
-        },
+        Err(refusal) => refused_next(refusal),
     }
 }
 
@@ -34,8 +30,7 @@ impl Parts<'_> {
     pub fn next_cell(&self, cursor: TableData) -> Next
         ensures { lines_by self.now (Some result) ≡ left_in self.now (State.Cells cursor) }
     {
-        let stepped = table::next(self.layout, self.area, cursor);
-        answered(stepped.answer, stepped.cursor)
+        answered(table::next(self.layout, self.area, cursor))
     }
 
     // The line of a column. After the last one all columns are opened, with the heap on.
@@ -51,10 +46,7 @@ impl Parts<'_> {
         }
         match table::open(self.layout, self.area, true) {
             Ok(cursor) => self.next_cell(cursor),
-            Err(refusal) => Next {
-                line: Line::Refused(refusal),
-                state: State::Done,
-            },
+            Err(refusal) => refused_next(refusal),
         }
     }
 }

@@ -34,7 +34,7 @@ pub enum State {
     Table,
     Column(usize),
     Cells(TableData),
-    // `replay`: the line of the steps at this place, the cursor's place and count, cell k of the list that the row
+    // `replay`: the line of the steps at this place (no slice of them, since a state is plain data), the cursor's place and count, cell k of the list that the row
     // read by `reader` stores to.
     Step {
         at: usize,
@@ -69,7 +69,7 @@ pub struct Page {
     pub state: State,
 }
 
-// A layout and the state in which a program starts with it.
+// A layout and the state in which a program starts with it. No Result: a refusal is a line to print like any other.
 #[derive(Clone, Copy)]
 pub struct Start {
     pub layout: BinTable,
@@ -94,6 +94,16 @@ struct Parts<'a> {
     steps: &'a [u8],
 }
 
+// The line of a refusal, and nothing after it.
+fn refused_next(refusal: Refusal) -> Next
+    ensures { result ≡ record { line = Line.Refused refusal; state = State.Done } }
+{
+    Next {
+        line: Line::Refused(refusal),
+        state: State::Done,
+    }
+}
+
 impl Parts<'_> {
     // The next line, none where nothing is left.
     fn next_line(&self, state: State) -> Option<Next>
@@ -112,10 +122,7 @@ impl Parts<'_> {
                 state: State::Step { at, cursor },
             }),
             State::Listed { at, reader, len, k } => Some(self.next_listed(at, reader, len, k)),
-            State::Refused(refusal) => Some(Next {
-                line: Line::Refused(refusal),
-                state: State::Done,
-            }),
+            State::Refused(refusal) => Some(refused_next(refusal)),
             State::Done => None,
         }
     }

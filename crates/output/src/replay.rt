@@ -23,39 +23,32 @@ fn answered(line: Line, at: usize, cursor: TableData) -> Next
 }
 
 // The line of a cell read's answer.
-fn cell_answered(answer: Result<Option<Cell>, Refusal>, at: usize, cursor: TableData) -> Next
-    ensures { result ≡ cell_next answer at cursor }
+fn cell_answered(stepped: Stepped<Option<Cell>>, at: usize) -> Next
+    ensures { result ≡ cell_next stepped.answer at stepped.cursor }
 {
-    let line = match answer {
+    let line = match stepped.answer {
         Ok(Some(cell)) => Line::Cell(cell),
         Ok(None) => Line::AtEnd,
         Err(refusal) => Line::Refused(refusal),
     };
-    answered(line, at, cursor)
+    answered(line, at, stepped.cursor)
 }
 
 // The line of a seek's answer.
-fn seek_answered(answer: Result<(), Refusal>, row: usize, at: usize, cursor: TableData) -> Next
-    ensures { result ≡ seek_next answer row at cursor }
+fn seek_answered(stepped: Stepped<()>, row: usize, at: usize) -> Next
+    ensures { result ≡ seek_next stepped.answer row at stepped.cursor }
 {
-    let line = match answer {
-        Ok(()) => Line::Seek(row),
-        Err(refusal) => Line::Refused(refusal),
-    };
-    answered(line, at, cursor)
+    let line = stepped
+        .answer
+        .map_or_else(Line::Refused, |()| Line::Seek(row));
+    answered(line, at, stepped.cursor)
 }
 
 // The line of a row read's answer: the cells of its list come after it.
-fn row_answered(
-    answer: Result<Option<u64>, Refusal>,
-    at: usize,
-    reader: TableData,
-    len: usize,
-    cursor: TableData,
-) -> Next
-    ensures { result ≡ row_next answer at reader len cursor }
+fn row_answered(stepped: Stepped<Option<u64>>, at: usize, reader: TableData, len: usize) -> Next
+    ensures { result ≡ row_next stepped.answer at reader len stepped.cursor }
 {
-    match answer {
+    match stepped.answer {
         Ok(Some(cells)) => Next {
             line: Line::Row(cells),
             state: State::Listed {
@@ -65,8 +58,8 @@ fn row_answered(
                 k: 0,
             },
         },
-        Ok(None) => answered(Line::AtEnd, at, cursor),
-        Err(refusal) => answered(Line::Refused(refusal), at, cursor),
+        Ok(None) => answered(Line::AtEnd, at, stepped.cursor),
+        Err(refusal) => answered(Line::Refused(refusal), at, stepped.cursor),
     }
 }
 
@@ -103,19 +96,15 @@ impl Parts<'_> {
             return Some(bad_line(self.steps, at));
         };
         let next = match command {
-            Command::Cell => {
-                let stepped = table::next(self.layout, self.area, cursor);
-                cell_answered(stepped.answer, after, stepped.cursor)
-            }
+            Command::Cell => { cell_answered(table::next(self.layout, self.area, cursor), after) }
             Command::Row(n) => {
                 let blank = cell::blank_cell();
                 let read = row::owners::row_cell(self.layout, self.area, cursor, blank, n, 0);
-                let stepped = read.stepped;
-                row_answered(stepped.answer, after, cursor, n, stepped.cursor)
+                row_answered(read.stepped, after, cursor, n)
             }
             Command::Seek(row) => {
                 let stepped = table::seek_to_row(self.layout, self.area, cursor, row);
-                seek_answered(stepped.answer, row, after, stepped.cursor)
+                seek_answered(stepped, row, after)
             }
             Command::ChooseAll | Command::Choose | Command::Heap(_) => bad_line(self.steps, at),
         };

@@ -73,7 +73,8 @@ fn open(
     match choose {
         None => table::open(layout, area, heap),
         Some(at) => {
-            // Place c holds c if the line chooses column c, and else a number that is no column's.
+            // Place c holds c if the line chooses column c, and else a number that is no column's. A line may list any
+            // number of indexes, and there is no heap for a list of them.
             let mut columns = [TFIELDS_LIMIT; TFIELDS_LIMIT];
             steps::place_indexes(steps::line_at(steps, at), &mut columns);
             table::select_fields(layout, area, &columns, heap)

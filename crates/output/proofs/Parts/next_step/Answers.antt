@@ -19,7 +19,7 @@ returns-in-Cell c =
     let y = sym (c.in-Some.is ∙ ap Some c.in-Cell.is) ∙ c.parse_command.ensures in
     rw c.cell_answered-next.ensures
     (cell_next_lem a.self.now.header.now a.self.now.layout a.self.now.area.now a.self.now.steps.now (a.at + length line + 1) a.cursor
-    c.next-stepped.result c.next-stepped.ensures
+    c.next.result c.next.ensures
     ∙ steps_command a.self.now.layout a.self.now.area.now a.self.now.steps.now a.at a.cursor line (Some C.Cell) c.if-self-at.false c.line_at-line.ensures y)
 
 pub returns-in-Row : goal.returns-in-Row
