@@ -8,7 +8,6 @@ use mathlib.Core.List.{List}
 use native.Mathlib.Omega.{arith}
 use lib.Dec.{leb}
 use lib.ListN.{length, drop, length-drop}
-use lib.Seq.{drop-drop}
 use borrow.Author.Tests.{leb-true, lt-leb}
 use Rattle.ascii.proofs.Cases.{by_test, either}
 use Rattle.cases.specs.declared.count.Tally.{Tally}
@@ -64,14 +63,12 @@ tallied_next (suc n) t b h y =
     (enough n (suc n - case_end b) (counted t (answer b (steps_at b) (text_at b) (case_end b))) (drop (case_end b) b)
     (omega (arith, length-drop (case_end b) b)) (omega (arith, length-drop (case_end b) b)))
 
--- one turn of the loop: the case at a place of the file, with the answer r
-pub tallied_turn : (f : List ℕ) (at : ℕ) (t u : Tally) (k : Case) (r : Bool) → IsWhole (drop at f) k
-    → r ≡ answer (drop at f) k.steps k.text k.end → u ≡ counted t r → tallied (length f - (at + k.end)) u (drop (at + k.end) f) ≡ tallied (length f - at) t (drop at f)
-tallied_turn f at t u k r w a e =
-    let b = drop at f in
-    let sum : length f - at - case_end b ≡ length f - (at + case_end b) = omega arith in
-    rw (e, a, w.steps, w.text, w.end, ← sum, ← drop-drop (case_end b) at f)
-    (sym (tallied_next (length f - at) t b (omega (arith, length-drop at f)) w.test))
+-- one turn of the loop: the case at the front of the rest, with the answer r
+pub tallied_turn : (b : List ℕ) (t u : Tally) (k : Case) (r : Bool) → IsWhole b k → r ≡ answer b k.steps k.text k.end → u ≡ counted t r
+    → tallied (length (drop k.end b)) u (drop k.end b) ≡ tallied (length b) t b
+tallied_turn b t u k r w a e =
+    rw (e, a, w.steps, w.text, w.end, length-drop (case_end b) b)
+    (sym (tallied_next (length b) t b (omega arith) w.test))
 
 -- what a count comes to: no more cases differ than there are
 pub counted_cases : (t : Tally) (s : Bool) → (counted t s).cases ≡ t.cases + 1

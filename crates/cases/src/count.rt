@@ -95,13 +95,12 @@ pub fn run_cases(file: &[u8]) -> Tally
         first: None,
         cut: false,
     };
-    let mut at: usize = 0;
+    let mut rest = file;
     loop {
-        let rest = &file[at..];
         let Some(case) = first_case(rest) else {
             return end_cases(tally, rest.len());
         };
         tally = count_case(tally, case_answer(rest, case));
-        at += case.end;
+        rest = &rest[case.end..];
     }
 }
