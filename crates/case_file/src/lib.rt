@@ -87,7 +87,8 @@ impl<'a, C: Case<'a>> Iterator for Cases<'a, C> {
     }
 }
 
-// Prints each case of a file, by its number from 0, and `cut` after them where the last one is cut short.
+// Prints each case of a file, by its number from 0, and `cut` after them where the last one is cut short. The file's
+// bytes outlive its cases, so they are the caller's.
 pub fn print_cases<'a, C: Case<'a>>(rt: &HostRuntime, file: &'a [u8]) -> io::Result<()> {
     for (number, case) in Cases::<C>::new(file).enumerate() {
         match case {

@@ -57,7 +57,7 @@ fn case_answer(bytes: &[u8], case: Case) -> bool
     compare::same_text(&bytes[12..steps], &bytes[steps..text], &bytes[text..end])
 }
 
-// One case more.
+// One case more. That there are fewer than 2^64 comes from the length of the file, which a tally does not know.
 fn count_case(tally: Tally, same: bool) -> Tally
     requires { (tally.cases + 1 < 2 ^ 64) × (tally.differ + 1 < 2 ^ 64) }
     ensures { result ≡ counted tally same }

@@ -38,30 +38,25 @@ fn fill(file: &mut File, buffer: &mut [u8]) -> usize
     n
 }
 
-// The first bytes of a file, as many as the buffer takes, and how many they are. A missing file counts as an empty
-// one, and so does one whose name is not UTF-8, since the standard library opens none.
-pub fn read_file(rt: &HostRuntime, name: &[u8], buffer: &mut [u8]) -> usize
-    ensures len { result ≤ length buffer.new }
-    ensures front { result ≡ length (take result buffer.new) }
+// The first bytes of a file, as many as the buffer takes: the part of it that they fill. A missing file counts as an
+// empty one, and so does one whose name is not UTF-8, since the standard library opens none.
+pub fn read_file<'a>(rt: &HostRuntime, name: &[u8], buffer: &'a mut [u8]) -> &'a [u8]
+    ensures { length result.now ≤ length buffer.old }
 {
     let Ok(path) = std::str::from_utf8(name) else {
-        return 0;
+        return &[];
     };
     let Ok(mut file) = File::open(rt, path) else {
-        return 0;
+        return &[];
     };
-    fill(&mut file, buffer)
+    let n = fill(&mut file, buffer);
+    &buffer[..n]
 }
 
 // Writes the first `len` bytes of a text to standard output, all of it where it has fewer. A write that fails says
-// nothing.
+// nothing. The length goes apart, so that no caller has to prove that it lies within the text.
 pub fn write_text(rt: &HostRuntime, text: &[u8], len: usize) {
-    let mut out = io::writer(rt);
-    if len < text.len() {
-        let _ = out.write_all(&text[..len]);
-        return;
-    }
-    let _ = out.write_all(text);
+    let _ = io::writer(rt).write_all(text.get(..len).unwrap_or(text));
 }
 
 // Prints what is left to print of the first bytes of a file and of its steps, one page after the other. In the state
@@ -82,8 +77,7 @@ pub fn print_pages(rt: &HostRuntime, source: &Source, state: State) -> State
 // section 16).
 pub fn print_cells(rt: &HostRuntime) {
     let mut buffer = file_buffer();
-    let n = read_file(rt, b"table.fits", &mut buffer);
-    let file = &buffer[..n];
+    let file = read_file(rt, b"table.fits", &mut buffer);
     let Start { layout, state } = output::cells_start(file);
     let source = Source {
         file,

@@ -19,7 +19,7 @@ fn print_page(rt: &HostRuntime, source: &Source, state: State) -> Page
     page
 }
 
-// Prints one page after the other, until nothing is left.
+// Prints one page after the other, until nothing is left. An empty page is the last, as `next_page` says.
 #[tactic(auto, using(output::proofs::Whole::rest_none))]
 pub fn print_rest(rt: &HostRuntime, source: &Source, state: State) -> State
     requires { length source.now.file.now ≤ file_limit }

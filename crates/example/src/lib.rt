@@ -9,7 +9,7 @@ ghost use Rattle.example.specs.Weight.{first_weight, first_row};
 use cell::Cell;
 use layout::EMPTY_LAYOUT;
 use refusal::Refusal;
-use row::owners::RowCell;
+use row::owners::{LIST_LIMIT, RowCell};
 use walk::TableData;
 
 // The first cell of the first column named WEIGHT, in either case, none at the end of the table, or what refuses the
@@ -24,7 +24,7 @@ pub fn first_weight(header: &[u8], area: &[u8]) -> Result<Option<Cell>, Refusal>
 }
 
 // The first row read into a list of 512 cells: its answer, the cursor after it, and cell k of the list. Of a table
-// that is refused the empty one is read, and that read is refused.
+// that is refused the empty one is read, and that read is refused: its answer is promised there too, so no `?`.
 pub fn of_first_row(header: &[u8], area: &[u8], k: usize) -> RowCell
     ensures step { row_result result.stepped.cursor result.stepped.answer (first_row header.now area.now).list
         ≡ first_row header.now area.now }
@@ -32,7 +32,7 @@ pub fn of_first_row(header: &[u8], area: &[u8], k: usize) -> RowCell
 {
     let layout = bintable::parse(header, area).unwrap_or(EMPTY_LAYOUT);
     let cursor = table::open(layout, area, true).unwrap_or(NO_CURSOR);
-    row::owners::row_cell(layout, area, cursor, cell::blank_cell(), 512, k)
+    row::owners::row_cell(layout, area, cursor, cell::blank_cell(), LIST_LIMIT, k)
 }
 
 // The cursor that belongs to no table.

@@ -32,7 +32,7 @@ struct Start {
     cursor: TableData,
 }
 
-// The entry and opening, or the first refusal.
+// The entry and opening, or the first refusal. Header, area, columns and heap go apart, as C passes them.
 fn open_table(header: &[u8], area: &[u8], cols: &[usize], heap: bool) -> Result<Start, Refusal>
     ensures check { outcome_of result
         ≡ before (all_checks header.now area.now)
@@ -87,7 +87,7 @@ pub extern "C" fn coentrift_sum_rows(header: &[u8], area: &[u8], cols: &[usize],
     }
 }
 
-// The checksum of the layout.
+// The checksum of the layout. It opens nothing, so its match is its own too.
 #[tactic(auto, using(crate::proofs::Opened::few_columns))]
 #[unsafe(no_mangle)]
 pub extern "C" fn coentrift_layout(header: &[u8], area: &[u8]) -> u64

@@ -7,10 +7,8 @@ ghost use Rattle.exports.specs.Loops.{rows_from};
 use super::{checksum, refusals};
 use cell::Cell;
 use layout::BinTable;
+use row::owners::LIST_LIMIT;
 use walk::TableData;
-
-// How many cells the list takes.
-const LIST_LENGTH: usize = 512;
 
 // The first n cells of a list.
 #[tactic(auto, using(crate::proofs::Sums::cells_folded))]
@@ -43,6 +41,6 @@ fn add_rows(list: &mut [Cell], layout: BinTable, area: &[u8], cursor: TableData)
 pub fn sum_rows(layout: BinTable, area: &[u8], cursor: TableData) -> u64
     ensures { result ≡ reads_sum (rows_from list_length layout area.now cursor) }
 {
-    let mut list = [cell::blank_cell(); LIST_LENGTH];
+    let mut list = [cell::blank_cell(); LIST_LIMIT];
     add_rows(&mut list, layout, area, cursor)
 }

@@ -2,28 +2,25 @@
 // section 17).
 #![tactic(auto)]
 
-ghost use Rattle.std.specs.Prelude.{◌≡◌, ◌≤◌, length, take};
+ghost use Rattle.std.specs.Prelude.{◌≤◌, length};
 
 use output::{Source, Start};
 
 // The steps are read only if the table is accepted.
-fn read_steps(rt: &HostRuntime, file: &[u8], buffer: &mut [u8]) -> usize
-    ensures len { result ≤ length buffer.new }
-    ensures front { result ≡ length (take result buffer.new) }
+fn read_steps<'a>(rt: &HostRuntime, file: &[u8], buffer: &'a mut [u8]) -> &'a [u8]
+    ensures { length result.now ≤ length buffer.old }
 {
     if output::parse_file(file).is_err() {
-        return 0;
+        return &[];
     }
     console::read_file(rt, b"steps.txt", buffer)
 }
 
 fn main(rt: HostRuntime) {
     let mut buffer = console::file_buffer();
-    let n = console::read_file(&rt, b"table.fits", &mut buffer);
-    let file = &buffer[..n];
+    let file = console::read_file(&rt, b"table.fits", &mut buffer);
     let mut text = console::file_buffer();
-    let m = read_steps(&rt, file, &mut text);
-    let steps = &text[..m];
+    let steps = read_steps(&rt, file, &mut text);
     let Start { layout, state } = output::replay_start(file, steps);
     let source = Source {
         file,

@@ -1,6 +1,7 @@
 // A case and its steps, made from their bytes in the file.
 use layout::BinTable;
 use refusal::Refusal;
+use row::owners::LIST_LIMIT;
 use std::alloc::{AllocError, Global};
 use walk::TableData;
 
@@ -10,10 +11,8 @@ const KEPT_LEN: usize = 24;
 
 const STEP_LEN: usize = 18;
 
-// The most indexes of columns, and the most cells of a row read's list.
+// The most indexes of columns.
 const INDEX_LIMIT: usize = 128;
-
-const LIST_LIMIT: usize = 512;
 
 // The number that the first four bytes say, or 0 where there are fewer.
 fn number_of(bytes: &[u8]) -> u32 {
@@ -91,9 +90,7 @@ impl<'a> TableCase<'a> {
         let mut header = Vec::new(alloc);
         for kept in self.kept.chunks(KEPT_LEN) {
             let mut record = [b' '; RECORD_LEN];
-            for (place, byte) in record.iter_mut().zip(kept) {
-                *place = *byte;
-            }
+            record[..kept.len()].copy_from_slice(kept);
             header.extend_from_slice(&record)?;
         }
         header.resize(self.header_len, b' ')?;

@@ -43,7 +43,8 @@ where
     }
 }
 
-// The table under test, with the area that a step is lent, and whether its calls are made over a lent cursor.
+// The table under test, with the area that a step is lent, and whether its calls are made over a lent cursor. Each of
+// its three calls has two shapes, and the file says which one is tried.
 #[derive(Clone, Copy)]
 pub struct Reader<'a> {
     pub layout: BinTable,
