@@ -15,7 +15,7 @@ use Rattle.ascii.specs.Text.{same}
 use Rattle.ascii.specs.Buffer.{put_in}
 use Rattle.ascii.proofs.Chain.{front}
 use Rattle.ascii.proofs.Parts.{part_from}
-use Rattle.ascii.proofs.Same.{same_true, same_false, same_length, same_not, same_root}
+use Rattle.ascii.proofs.Same.{same_true, same_false, same_not, same_root}
 use Rattle.output.specs.Cells.{file_limit}
 use Rattle.output.specs.Page.{page_room, lines_text, page_text, page_rest}
 use Rattle.output.specs.declared.Page.{Page}
@@ -40,10 +40,6 @@ told true x = refl
 told false x = refl
 
 module _ (x p : List ℕ) where
-  -- a shorter text does not begin with p
-  pub too_short : length x < length p → same (take (length p) x) p ≡ false
-  too_short h = same_length (take (length p) x) p (λ e. absurd (omega (arith, h, e, length-take (length p) x)))
-
   begins_inside : same (take (length p) x) p ≡ true → length p ≤ length x
   begins_inside e = omega (arith, ap length (same_true (take (length p) x) p e), length-take (length p) x)
 

@@ -9,6 +9,7 @@ use native.Mathlib.Omega.{arith}
 use lib.Dec.{leb}
 use lib.ListN.{length, drop, length-drop}
 use borrow.Author.Tests.{leb-true, lt-leb}
+use Rattle.std.proofs.lemmas.Option.{cond_some, none-some}
 use Rattle.ascii.proofs.Cases.{by_test, either}
 use Rattle.cases.specs.declared.count.Tally.{Tally}
 use Rattle.cases.specs.declared.count.Case.{Case}
@@ -23,14 +24,13 @@ pub record IsWhole (b : List ℕ) (k : Case) : Type 0 where
 
 pub is_whole : (b : List ℕ) (k : Case) → Some k ≡ case_of b → IsWhole b k
 is_whole b k h =
-    either (leb (case_end b) (length b))
-    (λ y. let q : Some k ≡ Some (record { steps = steps_at b; text = text_at b; end = case_end b }) = rw y at h in record { test = y; steps = cc; text = cc; end = cc })
-    (λ y. let q : Some k ≡ None = rw y at h in let z : ◌≡◌ {A = ℕ} 0 1 = cc in absurd (omega arith))
+    let c = cond_some (leb (case_end b) (length b)) (record { steps = steps_at b; text = text_at b; end = case_end b }) k (sym h) in
+    record { test = c.0; steps = rw (← c.1); text = rw (← c.1); end = rw (← c.1) }
 
 pub is_cut : (b : List ℕ) → None ≡ case_of b → leb (case_end b) (length b) ≡ false
 is_cut b h =
     either (leb (case_end b) (length b))
-    (λ y. let q : None ≡ Some (record { steps = steps_at b; text = text_at b; end = case_end b }) = rw y at h in let z : ◌≡◌ {A = ℕ} 0 1 = cc in absurd (omega arith))
+    (λ y. absurd (none-some _ (rw y at h)))
     (λ y. y)
 
 -- no whole case

@@ -44,5 +44,4 @@ module _ (o : List ℕ) (at : ℕ) (t : List ℕ) (size : length o ≡ room) (in
 pub ruleset put_steps = (put_inside, put_text, fits, appended_length, decimal_length)
 
 -- pieces that are put one after another are one text
-pub pieces : (w s t : List ℕ) → (w ++ s) ++ t ≡ w ++ (s ++ t)
-pieces w s t = append_assoc w s t
+pub ruleset pieces = (append_assoc)

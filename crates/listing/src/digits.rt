@@ -6,7 +6,8 @@ ghost use Rattle.listing.specs.Writer.{room};
 use crate::writer::Writer;
 
 impl Writer {
-    // A negative number is its magnitude with a minus sign before it.
+    // A negative number is its magnitude with a minus sign before it. It does not go to the kit's `itoa` whole: the
+    // definition has its own words, and a law would stand beside that of the library.
     pub(crate) fn put_signed(&mut self, n: i64)
         requires { length self.old + 21 ≤ room }
         ensures { self.new ≡ self.old ++ signed_text n }

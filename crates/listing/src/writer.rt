@@ -1,4 +1,5 @@
-// A line that is put together piece by piece, in memory of a fixed size: the library has no heap. It is not written by
+// A line that is put together piece by piece, in memory of a fixed size: the library has no heap. A function that puts
+// several pieces asks for the room that its own pieces need, so that none is left out. A line is not written by
 // `write!`, which says what was written only where it succeeds, and a line that has room is always written.
 ghost use Rattle.std.specs.Prelude.{◌≡◌, ℕ, ◌+◌, ◌≤◌, List, [], ◌++◌, length, take};
 ghost use Rattle.ascii.specs.Number.{decimal_text};

@@ -10,6 +10,7 @@ use native.Mathlib.Omega.{arith}
 use lib.Dec.{ltb}
 use lib.ListN.{length, take, drop}
 use borrow.Author.Tests.{ltb-true, ltb-false}
+use Rattle.std.proofs.lemmas.Option.{same_Some, none-some}
 use Rattle.ascii.proofs.Cases.{either}
 use Rattle.refusal.specs.Refusal as H
 use Rattle.layout.specs.declared.BinTable.{BinTable}
@@ -67,20 +68,14 @@ record Set (s : List ℕ) (t u : Settings) (y : Says) (n : ℕ) : Type 0 where
   value : settings_in s u ≡ R.set (settings_in s t) y
   place : u.at ≡ t.at + n + 1
 
-to_same : (u v : Settings) → Some u ≡ Some v → u ≡ v
-to_same u v f = cc
-
-not_over : (A : Type 0) (u : Settings) → Some u ≡ None → A
-not_over A u f = let z : ◌≡◌ {A = ℕ} 0 1 = cc in absurd (omega arith)
-
 set_by : (s : List ℕ) (t u : Settings) (y : Says) (n : ℕ) → says (line_at s t.at) ≡ y → Some u ≡ changed t (command_of y) n → Set s t u y n
-set_by s t u choose_all n e f = let q = to_same u _ f in record { setting = refl; value = rw q; place = rw q }
-set_by s t u (choose is) n e f = let q = to_same u _ f in record { setting = refl; value = rw (q, e); place = rw q }
-set_by s t u (heap on) n e f = let q = to_same u _ f in record { setting = refl; value = rw q; place = rw q }
-set_by s t u cell n e f = not_over (Set s t u cell n) u f
-set_by s t u (row m) n e f = not_over (Set s t u (row m) n) u f
-set_by s t u (S.seek r) n e f = not_over (Set s t u (S.seek r) n) u f
-set_by s t u bad n e f = not_over (Set s t u bad n) u f
+set_by s t u choose_all n e f = let q = same_Some u _ f in record { setting = refl; value = rw q; place = rw q }
+set_by s t u (choose is) n e f = let q = same_Some u _ f in record { setting = refl; value = rw (q, e); place = rw q }
+set_by s t u (heap on) n e f = let q = same_Some u _ f in record { setting = refl; value = rw q; place = rw q }
+set_by s t u cell n e f = absurd (none-some u (sym f))
+set_by s t u (row m) n e f = absurd (none-some u (sym f))
+set_by s t u (S.seek r) n e f = absurd (none-some u (sym f))
+set_by s t u bad n e f = absurd (none-some u (sym f))
 
 over_by : (t : Settings) (y : Says) (n : ℕ) → None ≡ changed t (command_of y) n → R.is_setting y ≡ false
 over_by t choose_all n f = cc
@@ -100,7 +95,7 @@ next_by : (s : List ℕ) (t u : Settings) → Some u ≡ next_settings s t → N
 next_by s t u f =
     either (ltb t.at (length s))
     (λ y. record { inside = ltb-true _ _ y; set = set_by s t u (says (line_at s t.at)) (length (line_at s t.at)) refl (rw y at f) })
-    (λ y. not_over (Next s t u) u (rw y at f))
+    (λ y. absurd (none-some u (sym (rw y at f))))
 
 -- so the place of the next one is further on
 pub place_next : (s : List ℕ) (t u : Settings) → Some u ≡ next_settings s t → length s - u.at < length s - t.at

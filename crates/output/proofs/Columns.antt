@@ -3,7 +3,7 @@
 -- Assumes nothing.
 use Rattle.std.specs.Prelude.{Option, Some}
 use Prim.Native.Nat.{ℕ, zero, suc, ◌+◌, ◌<◌, ◌≤◌}
-use mathlib.Core.Path.{◌≡◌, refl, ap, ◌∙◌}
+use mathlib.Core.Path.{◌≡◌, refl, sym, ap, ◌∙◌}
 use mathlib.Core.Logic.{◌⊎◌, inl, inr, ⊎_elim}
 use mathlib.Core.Bool.{Bool, true, false, ◌||◌, or-false}
 use mathlib.Core.List.{List, [], ◌∷◌}
@@ -12,6 +12,7 @@ use lib.Dec.{eqb, ltb}
 use lib.ListN.{length, set, replicate, length-set, length-replicate}
 use lib.Seq.{set_out}
 use borrow.Author.Tests.{ltb-true, ltb-false, ne_eqb}
+use Rattle.std.proofs.Math.Bool.{or_self_left}
 use Rattle.ascii.proofs.Cases.{either}
 use Rattle.tform.specs.Width.{among}
 use Rattle.layout.specs.declared.BinTable.{BinTable}
@@ -36,10 +37,6 @@ own_set m k [] i n e o = tt
 own_set m k (x ∷ xs) zero n e o = (inl (omega (arith, e)), o.1)
 own_set m k (x ∷ xs) (suc i) n e o = (o.0, own_set m (suc k) xs i n (omega (arith, e)) o.1)
 
-again : (p q : Bool) → (p || q) ≡ (p || (p || q))
-again true q = refl
-again false q = refl
-
 swapped : (p q r : Bool) → (p || (q || r)) ≡ (q || (p || r))
 swapped true true r = refl
 swapped true false r = refl
@@ -57,7 +54,7 @@ unfolding among
 among_set c m k [] i n b e h o = absurd (omega arith)
 among_set c m k (x ∷ xs) zero n b e h o =
     ⊎_elim
-    (λ q. let z : x ≡ n = omega (arith, q, e) in rw z (again (eqb c n) (among c xs)))
+    (λ q. let z : x ≡ n = omega (arith, q, e) in rw z (sym (or_self_left (eqb c n) (among c xs))))
     (λ q. let z : eqb c x ≡ false = ne_eqb c x (λ w. absurd (omega (arith, w, q))) in rw z)
     o.0
 among_set c m k (x ∷ xs) (suc i) n b e h o =

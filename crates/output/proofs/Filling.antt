@@ -9,6 +9,7 @@ use lib.Dec.{leb}
 use lib.ListN.{length, take, drop, take-append-drop}
 use lib.Seq.{length-take-le, drop-drop}
 use borrow.Author.Tests.{le-leb, lt-leb, leb-true, leb-false}
+use Rattle.std.proofs.lemmas.Option.{cond_some, none-some}
 use Rattle.ascii.proofs.Cases.{either}
 use Rattle.ascii.specs.Buffer.{put_in, written, written_to}
 use Rattle.ascii.proofs.Lengths.{put_length, take_put, drop_put}
@@ -24,9 +25,8 @@ pub record Room (out : List ℕ) (at : ℕ) (t : List ℕ) (e : ℕ) : Type 0 wh
 pub written_to_lem : (out : List ℕ) (at : ℕ) (t : List ℕ) (e : ℕ) → Some e ≡ written_to out at t → Room out at t e
 unfolding written written_to
 written_to_lem out at t e h =
-    either (leb (at + length t) (length out))
-    (λ b. let q : Some e ≡ Some (at + length t) = rw b at h in record { room = leb-true _ _ b; end = cc; buffer = rw b })
-    (λ b. let q : Some e ≡ None = rw b at h in let z : ◌≡◌ {A = ℕ} 0 1 = cc in absurd (omega arith))
+    let c = cond_some (leb (at + length t) (length out)) (at + length t) e (sym h) in
+    record { room = leb-true _ _ c.0; end = sym c.1; buffer = rw c.0 }
 
 pub record Full (out : List ℕ) (at : ℕ) (t : List ℕ) : Type 0 where
   pub full : length out < at + length t
@@ -36,7 +36,7 @@ pub no_room : (out : List ℕ) (at : ℕ) (t : List ℕ) → None ≡ written_to
 unfolding written written_to
 no_room out at t h =
     either (leb (at + length t) (length out))
-    (λ b. let q : None ≡ Some (at + length t) = rw b at h in let z : ◌≡◌ {A = ℕ} 0 1 = cc in absurd (omega arith))
+    (λ b. absurd (none-some (at + length t) (rw b at h)))
     (λ b. record { full = leb-false _ _ b; same = rw b })
 
 -- ---- the page so far: its text stands at the front of the buffer, and what is still to come of the page is what there is room for

@@ -90,7 +90,10 @@ impl<'a> TableCase<'a> {
         let mut header = Vec::new(alloc);
         for kept in self.kept.chunks(KEPT_LEN) {
             let mut record = [b' '; RECORD_LEN];
-            record[..kept.len()].copy_from_slice(kept);
+            // Byte by byte, since `copy_from_slice` asks for a proof that no chunk is longer than a record.
+            for (place, byte) in record.iter_mut().zip(kept) {
+                *place = *byte;
+            }
             header.extend_from_slice(&record)?;
         }
         header.resize(self.header_len, b' ')?;
