@@ -2,36 +2,19 @@
 -- Assumes nothing.
 use Rattle.std.specs.Prelude.{Option, Some, None}
 use Prim.Native.Nat.{ℕ, zero, suc, ◌+◌, ◌-◌, ◌≤◌, ◌<◌}
-use mathlib.Core.Path.{◌≡◌, refl, sym}
+use mathlib.Core.Path.{◌≡◌, refl, sym, ap, ◌∙◌}
 use mathlib.Core.Bool.{Bool, true, false}
 use mathlib.Core.List.{List}
 use native.Mathlib.Omega.{arith}
 use lib.Dec.{leb}
 use lib.ListN.{length, drop, length-drop}
-use borrow.Author.Tests.{leb-true, lt-leb}
-use Rattle.std.proofs.lemmas.Option.{cond_some, none-some}
+use borrow.Author.Tests.{leb-true, le-leb, lt-leb}
 use Rattle.ascii.proofs.Cases.{by_test, either}
 use Rattle.cases.specs.declared.count.Tally.{Tally}
 use Rattle.cases.specs.declared.count.Case.{Case}
-use Rattle.cases.specs.Cases.{steps_at, text_at, case_end, case_of, answer, counted, ended, none, tallied, tally_of}
-
--- a case as the code has it
-pub record IsWhole (b : List ℕ) (k : Case) : Type 0 where
-  pub test : leb (case_end b) (length b) ≡ true
-  pub steps : k.steps ≡ steps_at b
-  pub text : k.text ≡ text_at b
-  pub end : k.end ≡ case_end b
-
-pub is_whole : (b : List ℕ) (k : Case) → Some k ≡ case_of b → IsWhole b k
-is_whole b k h =
-    let c = cond_some (leb (case_end b) (length b)) (record { steps = steps_at b; text = text_at b; end = case_end b }) k (sym h) in
-    record { test = c.0; steps = rw (← c.1); text = rw (← c.1); end = rw (← c.1) }
-
-pub is_cut : (b : List ℕ) → None ≡ case_of b → leb (case_end b) (length b) ≡ false
-is_cut b h =
-    either (leb (case_end b) (length b))
-    (λ y. absurd (none-some _ (rw y at h)))
-    (λ y. y)
+use Rattle.ascii.specs.Text.{same}
+use Rattle.cases.specs.Text.{replay_text}
+use Rattle.cases.specs.Cases.{steps_at, text_at, case_end, IsCase, answer, counted, ended, none, tallied, tally_of}
 
 -- no whole case
 pub tallied_ends : (n : ℕ) (t : Tally) (b : List ℕ) → leb (case_end b) (length b) ≡ false → tallied n t b ≡ ended t (length b)
@@ -63,12 +46,22 @@ tallied_next (suc n) t b h y =
     (enough n (suc n - case_end b) (counted t (answer b (steps_at b) (text_at b) (case_end b))) (drop (case_end b) b)
     (omega (arith, length-drop (case_end b) b)) (omega (arith, length-drop (case_end b) b)))
 
--- one turn of the loop: the case at the front of the rest, with the answer r
-pub tallied_turn : (b : List ℕ) (t u : Tally) (k : Case) (r : Bool) → IsWhole b k → r ≡ answer b k.steps k.text k.end → u ≡ counted t r
-    → tallied (length (drop k.end b)) u (drop k.end b) ≡ tallied (length b) t b
-tallied_turn b t u k r w a e =
-    rw (e, a, w.steps, w.text, w.end, length-drop (case_end b) b)
-    (sym (tallied_next (length b) t b (omega arith) w.test))
+-- what is compared of a case
+module _ (x y z u v w : List ℕ) where
+  same_parts : x ≡ u → y ≡ v → z ≡ w → same z (replay_text x y) ≡ same w (replay_text u v)
+  same_parts e f g =
+      ap (λ (n : List ℕ). same z (replay_text n y)) e ∙ ap (λ (n : List ℕ). same z (replay_text u n)) f ∙ ap (λ (n : List ℕ). same n (replay_text u v)) g
+
+pub case_same : (b : List ℕ) (k : Case) → IsCase b k
+    → same k.text.now (replay_text k.table.now k.steps.now) ≡ answer b (steps_at b) (text_at b) (case_end b)
+case_same b k w = same_parts k.table.now k.steps.now k.text.now _ _ _ w.table w.steps w.text
+
+-- one turn of the loop: the case at the front of the rest x, with the answer r, and what stands after it
+pub tallied_turn : (b : List ℕ) (t u : Tally) (x : List ℕ) (r : Bool) → case_end b ≤ length b → x ≡ drop (case_end b) b
+    → r ≡ answer b (steps_at b) (text_at b) (case_end b) → u ≡ counted t r → tallied (length x) u x ≡ tallied (length b) t b
+tallied_turn b t u x r h d a e =
+    rw (e, a, d, length-drop (case_end b) b)
+    (sym (tallied_next (length b) t b (omega arith) (le-leb _ _ h)))
 
 -- what a count comes to: no more cases differ than there are
 pub counted_cases : (t : Tally) (s : Bool) → (counted t s).cases ≡ t.cases + 1

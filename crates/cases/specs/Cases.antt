@@ -1,6 +1,6 @@
 -- The file of cases and what comes of them.
 -- Assumes nothing.
-use Rattle.std.specs.Prelude.{ℕ, zero, suc, ◌+◌, ◌-◌, Bool, true, false, cond, List, length, take, drop, ltb, leb, Option, Some, None, unwrap_or}
+use Rattle.std.specs.Prelude.{ℕ, ◌≡◌, zero, suc, ◌+◌, ◌-◌, ◌≤◌, Bool, true, false, cond, List, length, take, drop, ltb, leb, Some, None, unwrap_or}
 use Rattle.ascii.specs.Text.{same}
 use Rattle.cell.specs.Item.{word}
 use Rattle.cases.specs.Text.{replay_text}
@@ -19,14 +19,17 @@ text_at b = steps_at b + word b 4 4
 abbrev pub case_end : List ℕ → ℕ
 case_end b = text_at b + word b 8 4
 
--- the case at the front of some bytes; none where they end within it
-abbrev pub case_of : List ℕ → Option Case
-case_of b =
-    cond (leb (case_end b) (length b)) (Some (record { steps = steps_at b; text = text_at b; end = case_end b })) None
-
 -- the bytes from place i to place j
 abbrev pub part : ℕ → ℕ → List ℕ → List ℕ
 part i j b = take (j - i) (drop i b)
+
+-- the case at the front of some bytes, and what stands after it
+pub record IsCase (b : List ℕ) (k : Case) : Type 0 where
+  pub whole : case_end b ≤ length b
+  pub table : k.table.now ≡ part 12 (steps_at b) b
+  pub steps : k.steps.now ≡ part (steps_at b) (text_at b) b
+  pub text : k.text.now ≡ part (text_at b) (case_end b) b
+  pub rest : k.rest.now ≡ drop (case_end b) b
 
 -- whether the text is what `replay` prints of the table and the steps
 abbrev pub answer : List ℕ → ℕ → ℕ → ℕ → Bool

@@ -1,8 +1,9 @@
 // The cases of a file, one after another: three lengths of four bytes, high byte first, and then so many bytes of a
 // table, of steps and of the text that is expected.
-ghost use Rattle.std.specs.Prelude.{◌≡◌, ◌+◌, ◌*◌, ◌≤◌, ◌<◌, ◌^◌, length};
+ghost use Rattle.std.specs.Prelude.{◌≡◌, ◌+◌, ◌*◌, ◌≤◌, ◌<◌, ◌^◌, length, MatchOption};
 ghost use Rattle.cell.specs.Item.{word};
-ghost use Rattle.cases.specs.Cases.{case_of, answer, counted, ended, tally_of};
+ghost use Rattle.cases.specs.Cases.{case_end, IsCase, counted, ended, tally_of};
+ghost use Rattle.cases.specs.declared.count.Case.{Case};
 
 use super::compare;
 
@@ -16,45 +17,36 @@ pub struct Tally {
     pub cut: bool,
 }
 
-// Where the steps and the text of a case begin, and where it ends.
+// A case, and what stands after it.
 #[derive(Clone, Copy)]
-struct Case {
-    steps: usize,
-    text: usize,
-    end: usize,
+struct Case<'a> {
+    table: &'a [u8],
+    steps: &'a [u8],
+    text: &'a [u8],
+    rest: &'a [u8],
 }
 
-// The number that the four bytes from a place on say. The bound is for the sums of three of them.
+// The number that the four bytes from a place on say.
 fn length_at(bytes: &[u8], at: u8) -> usize
-    ensures value { result ≡ word bytes.now at 4 }
-    ensures bounded { result < 2 ^ 32 }
+    ensures { result ≡ word bytes.now at 4 }
 {
     cell::words::u32_at(bytes, 0, at) as usize
 }
 
 // The case at the front of some bytes; none where they end within it.
 fn first_case(bytes: &[u8]) -> Option<Case>
-    ensures { result ≡ case_of bytes.now }
+    ensures { MatchOption result (length bytes.now < case_end bytes.now) (λ (k : Case). IsCase bytes.now k) }
 {
-    if bytes.len() < 12 {
-        return None;
-    }
-    let steps = 12 + length_at(bytes, 0);
-    let text = steps + length_at(bytes, 4);
-    let end = text + length_at(bytes, 8);
-    if bytes.len() < end {
-        return None;
-    }
-    Some(Case { steps, text, end })
-}
-
-// Whether the text of a case is what `replay` prints of its table and its steps.
-fn case_answer(bytes: &[u8], case: Case) -> bool
-    requires { (12 ≤ case.steps) × (case.steps ≤ case.text) × (case.text ≤ case.end) × (case.end ≤ length bytes.now) }
-    ensures { result ≡ answer bytes.now case.steps case.text case.end }
-{
-    let Case { steps, text, end } = case;
-    compare::same_text(&bytes[12..steps], &bytes[steps..text], &bytes[text..end])
+    let (_, rest) = bytes.split_at_checked(12)?;
+    let (table, rest) = rest.split_at_checked(length_at(bytes, 0))?;
+    let (steps, rest) = rest.split_at_checked(length_at(bytes, 4))?;
+    let (text, rest) = rest.split_at_checked(length_at(bytes, 8))?;
+    Some(Case {
+        table,
+        steps,
+        text,
+        rest,
+    })
 }
 
 // One case more. That there are fewer than 2^64 comes from the length of the file, which a tally does not know.
@@ -100,7 +92,7 @@ pub fn run_cases(file: &[u8]) -> Tally
         let Some(case) = first_case(rest) else {
             return end_cases(tally, rest.len());
         };
-        tally = count_case(tally, case_answer(rest, case));
-        rest = &rest[case.end..];
+        tally = count_case(tally, compare::same_text(case.table, case.steps, case.text));
+        rest = case.rest;
     }
 }
