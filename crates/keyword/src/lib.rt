@@ -129,10 +129,14 @@ fn indexed_slot(r: usize, k: usize) -> Option<usize>
 // Its place among the names that must not stand twice. Two functions: one asks of n, the other of the root.
 #[tactic(auto, unfolding(crate::specs::Names::single, crate::specs::Names::once_roots, crate::specs::Names::other_roots))]
 fn indexed_once(r: usize, k: usize) -> Option<usize>
-    requires { (r < length roots) × (k < index_limit) }
+    requires { k < index_limit }
     ensures { result ≡ cond (ltb r (length once_roots)) (Some (length single + r * index_limit + k)) None }
 {
-    (r < ONCE_ROOTS).then_some(SINGLE + r * INDEX_LIMIT + k)
+    // No `then_some`, which computes the place of a root that is above the limit too.
+    if r < ONCE_ROOTS {
+        return Some(SINGLE + r * INDEX_LIMIT + k);
+    }
+    None
 }
 
 // The places of a name that has no root in front.

@@ -55,8 +55,7 @@ indexed_slot-requires c =
     ((position_at _ roots _ (sym c.in-Some.ensures)).0, index_below _ _ (sym c.in-Some-keyword_index.ensures))
 
 pub indexed_once-requires : goal.indexed_once-requires
-indexed_once-requires c =
-    ((position_at _ roots _ (sym c.in-Some.ensures)).0, index_below _ _ (sym c.in-Some-keyword_index.ensures))
+indexed_once-requires c = index_below _ _ (sym c.in-Some-keyword_index.ensures)
 
 pub returns-clause-slot : goal.returns-clause-slot
 returns-clause-slot c =
