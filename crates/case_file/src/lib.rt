@@ -8,8 +8,8 @@ ghost use Rattle.std.specs.List.{IsSplitAt};
 ghost use Rattle.case_file.specs.Number.{front_number};
 
 use refusal::Refusal;
-use std::marker::PhantomData;
 use std::io;
+use std::marker::PhantomData;
 
 // The number that the first four bytes say, high byte first, and what stands after it; none where there are fewer.
 pub fn split_number(bytes: &[u8]) -> Option<(u32, &[u8])>
