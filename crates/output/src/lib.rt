@@ -34,8 +34,8 @@ pub enum State {
     Table,
     Column(usize),
     Cells(TableData),
-    // `replay`: the line of the steps at this place (no slice of them, since a state is plain data), the cursor's place and count, cell k of the list that the row
-    // read by `reader` stores to.
+    // `replay`: the line of the steps at this place, the cursor's place and count, cell k of the list that the row
+    // read by `reader` stores to. A place and no slice of the steps, since a state is plain data.
     Step {
         at: usize,
         cursor: TableData,
