@@ -1,10 +1,9 @@
 -- The test of two lists of bytes, and what it says.
 -- Assumes nothing.
-use mathlib.Core.Path.{◌≡◌, refl, sym, ◌∙◌, ap, subst}
+use mathlib.Core.Path.{◌≡◌, refl, sym, ◌∙◌, subst}
 use mathlib.Core.List.{List, [], ◌∷◌, ◌++◌}
 use mathlib.Core.Bool.{true, false, true≢false, false≢true}
 use Prim.Native.Nat.{ℕ}
-use lib.ListN.{length}
 use lib.Dec.{eqb}
 use borrow.Author.Tests.{eq-eqb, eqb-true}
 use Rattle.ascii.specs.Text.{same}
@@ -26,10 +25,6 @@ same_refl (x ∷ xs) = rw (eq-eqb x x refl, same_refl xs)
 
 pub same_false : (a b : List ℕ) → (a ≡ b → ⊥) → same a b ≡ false
 same_false a b h = either (same a b) (λ t. absurd (h (same_true a b t))) (λ e. e)
-
--- lists that differ in their lengths
-pub same_length : (a b : List ℕ) → (length a ≡ length b → ⊥) → same a b ≡ false
-same_length a b h = same_false a b (λ e. h (ap length e))
 
 pub same_not : (a b : List ℕ) → same a b ≡ false → a ≡ b → ⊥
 same_not a b h e = true≢false (sym (subst (λ (l : List ℕ). same a l ≡ true) e (same_refl a)) ∙ h)
