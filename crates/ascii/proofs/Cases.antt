@@ -11,6 +11,12 @@ pub by_test {ℓ} : {A : Type ℓ} (P : A → Type 0) (t : Bool) {x y : A} → (
 by_test P true f g = f refl
 by_test P false f g = g refl
 
+-- Q of two choices by the same test
+pub by_both {ℓ κ} : {A : Type ℓ} {B : Type κ} (Q : A → B → Type 0) (t : Bool) {x y : A} {u v : B} → (t ≡ true → Q x u) → (t ≡ false → Q y v)
+    → Q (cond t x y) (cond t u v)
+by_both Q true f g = f refl
+by_both Q false f g = g refl
+
 -- a fact that holds whichever way a test goes
 pub either {ℓ} : {P : Type ℓ} (t : Bool) → (t ≡ true → P) → (t ≡ false → P) → P
 either true f g = f refl

@@ -4,11 +4,12 @@
 use Rattle.std.specs.Prelude.{Option}
 use Prim.Native.Nat.{ℕ, zero, suc, ◌+◌, ◌-◌}
 use mathlib.Core.Path.{◌≡◌, refl, sym, ap, ◌∙◌}
-use mathlib.Core.Bool.{Bool, true, false, cond}
+use mathlib.Core.Bool.{cond}
 use mathlib.Core.List.{List, [], ◌∷◌, ◌++◌}
 use native.Mathlib.Nat.{add-zero, zero-add, add-suc, suc-add, zero-sub, sub-zero, suc-sub-suc}
 use native.Mathlib.Omega.{arith}
 use lib.ListN.{length, drop, length-append}
+use Rattle.ascii.proofs.Cases.{by_both}
 use Rattle.layout.specs.declared.Column.{Column}
 use Rattle.layout.specs.declared.BinTable.{BinTable}
 use Rattle.cell.specs.declared.Cell.{Cell}
@@ -24,12 +25,6 @@ use Rattle.walk.specs.Plain.{column_of, field_of, cell_of, item_at, cells, entri
 use Rattle.walk.specs.Walk.{Gathered, all_cells, outside, before, gather}
 use Rattle.row.specs.declared.plan.FieldPlan.{FieldPlan}
 use Rattle.row.specs.Plan.{plan_of, field_plan, is_outside, planned_cell, plan_at, plan_for}
-
--- Q of two choices by the same test
-pub by_both {ℓ κ} : {A : Type ℓ} {B : Type κ} (Q : A → B → Type 0) (t : Bool) {x y : A} {u v : B} → (t ≡ true → Q x u) → (t ≡ false → Q y v)
-    → Q (cond t x y) (cond t u v)
-by_both Q true f g = f refl
-by_both Q false f g = g refl
 
 -- ---- some cells
 

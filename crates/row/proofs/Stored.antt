@@ -11,7 +11,7 @@ use lib.ListN.{length, get_or, set, drop, length-append, length-drop}
 use lib.Seq.{drop-nil, drop-cons, drop-drop, set_at}
 use lib.Dec.{leb, ltb}
 use borrow.Author.Tests.{leb-true, ltb-true, ltb-false}
-use Rattle.ascii.proofs.Cases.{by_test}
+use Rattle.ascii.proofs.Cases.{by_test, by_both}
 use Rattle.layout.specs.declared.Column.{Column}
 use Rattle.layout.specs.declared.BinTable.{BinTable}
 use Rattle.layout.specs.Layout.{layout_ok, data_limit}
@@ -31,7 +31,7 @@ use Rattle.walk.proofs.Laws.{from_row}
 use Rattle.walk.proofs.Steps.{belongs_fits}
 use Rattle.row.specs.declared.plan.RowPlan.{RowPlan}
 use Rattle.row.specs.Plan.{result_of, plan_of, field_plan, is_outside, planned_cell, PlanOk, stored_at, filled, RowFits, left_of, plan_for, rest_plan, row_plan}
-use Rattle.row.proofs.Fields.{by_both, cells_from, cells_length, cells_before, cells_more, before_all, field_on, column_gathered}
+use Rattle.row.proofs.Fields.{cells_from, cells_length, cells_before, cells_more, before_all, field_on, column_gathered}
 
 -- ---- the list after a field's cells
 

@@ -63,6 +63,7 @@ same_items a b (F.Items ty at n) e = same_none a b at _ (rw (e, zero-mul))
 same_items a b (F.Descriptor v) e = tt
 same_items a b F.OutsideHeap e = tt
 
+-- a number is some or none; std says it of an Option alone
 some_or_none : (n : ℕ) {P : Type 0} → (0 < n → P) → (n ≡ 0 → P) → P
 some_or_none zero f g = g refl
 some_or_none (suc n) f g = f (omega arith)

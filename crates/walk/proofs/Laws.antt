@@ -10,7 +10,7 @@ use lib.ListN.{length, get_or, length-append, get_or-append}
 use lib.Seq.{get_or-append_right}
 use lib.Dec.{ltb}
 use borrow.Author.Tests.{ltb-true, lt-ltb, le-ltb, ltb-false}
-use Rattle.ascii.proofs.Cases.{by_test, either}
+use Rattle.ascii.proofs.Cases.{by_test, either, by_both}
 use Rattle.layout.specs.declared.Column.{Column}
 use Rattle.layout.specs.declared.BinTable.{BinTable}
 use Rattle.cell.specs.declared.DataValue.{DataValue}
@@ -21,11 +21,6 @@ use Rattle.walk.specs.declared.Entry.{Entry}
 use Rattle.walk.specs.declared.Entry.TheVariants as E
 use Rattle.walk.specs.Plain.{column_of, field_of, cell_of, item_at, cells, entries_of, entry_in, chosen, column_entries, column_size, columns_entries, row_entries}
 use Rattle.walk.specs.Walk.{Next, entry_at, no_entry, next}
-
--- f of a choice
-map_test {ℓ κ} : {A : Type ℓ} {B : Type κ} (f : A → B) (t : Bool) {x y : A} {u v : B} → f x ≡ u → f y ≡ v → f (cond t x y) ≡ cond t u v
-map_test f true p q = p
-map_test f false p q = q
 
 -- ---- a field
 
@@ -86,7 +81,7 @@ module _ (l : BinTable) (a : List ℕ) (choice : ℕ) (heap : Bool) (r : ℕ) wh
 
   pub column_length : (c : ℕ) → length (column_entries l a choice heap r c) ≡ size c
   unfolding column_entries
-  column_length c = map_test length (chosen choice c) (entries_length (column_of l c) a r c (field_of l a heap r c)) refl
+  column_length c = by_both (λ (xs : List Entry) (n : ℕ). length xs ≡ n) (chosen choice c) (λ _. entries_length (column_of l c) a r c (field_of l a heap r c)) (λ _. refl)
 
   column_at : (c k : ℕ) (d : Entry) → k < size c → get_or (column_entries l a choice heap r c) k d ≡ entry_in (column_of l c) a r c (field_of l a heap r c) k
   unfolding column_entries

@@ -2,12 +2,13 @@
 -- Assumes nothing.
 use Prim.Native.Nat.{ℕ, zero, suc, ◌+◌, ◌*◌, ◌≤◌, ◌<◌}
 use mathlib.Core.Path.{◌≡◌, refl, sym, ap, ap₂, subst, fun_ext, ◌∙◌}
-use mathlib.Core.Bool.{Bool, true, false, cond}
+use mathlib.Core.Bool.{Bool, true}
 use mathlib.Core.List.{List, ◌++◌}
 use native.Mathlib.Nat.{mul-le-mul_right}
 use native.Mathlib.Omega.{arith}
 use lib.Dec.{ltb}
 use borrow.Author.Tests.{ltb-true}
+use Rattle.ascii.proofs.Cases.{by_both}
 use Rattle.layout.specs.declared.Column.{Column}
 use Rattle.layout.specs.declared.BinTable.{BinTable}
 use Rattle.layout.specs.Layout.{data_size}
@@ -18,11 +19,6 @@ use Rattle.cell.specs.Item.{width}
 use Rattle.cell.proofs.Same.{item_same, field_same}
 use Rattle.walk.specs.Plain.{column_of, field_at, field_of, chosen, cells, item_at, entries_of, column_entries, columns_entries, row_entries}
 use Rattle.walk.specs.Agree.{SameItems, Agree}
-
--- two choices by one test are the same where their cases are
-same_test {ℓ} : {A : Type ℓ} (t : Bool) {x y u v : A} → (t ≡ true → x ≡ u) → (t ≡ false → y ≡ v) → cond t x y ≡ cond t u v
-same_test true f g = f refl
-same_test false f g = g refl
 
 cells_same : (r c : ℕ) (v w : ℕ → DataValue) (i n : ℕ) → ((j : ℕ) → j < i + n → v j ≡ w j) → cells r c v i n ≡ cells r c w i n
 unfolding cells
@@ -61,7 +57,7 @@ module _ (l : BinTable) (a b : List ℕ) (choice : ℕ) (heap : Bool) (agree : A
   column_same : (r c : ℕ) → r < l.naxis2 → c < l.tfields → column_entries l a choice heap r c ≡ column_entries l b choice heap r c
   unfolding column_entries
   column_same r c hr hc =
-      same_test (chosen choice c)
+      by_both ◌≡◌ (chosen choice c)
       (λ e.
       entries_same a b (column_of l c) r c (field_of l a heap r c) (agree.arrays r c hr hc e)
       ∙ ap (entries_of (column_of l c) b r c) (fields_same r c hr hc e))
@@ -77,7 +73,7 @@ module _ (l : BinTable) (a b : List ℕ) (choice : ℕ) (heap : Bool) (agree : A
   unfolding row_entries
   rows_same =
       fun_ext
-      (λ r. same_test (ltb r l.naxis2) (λ e. columns_same r 0 l.tfields (ltb-true r l.naxis2 e) (omega arith)) (λ e. refl))
+      (λ r. by_both ◌≡◌ (ltb r l.naxis2) (λ e. columns_same r 0 l.tfields (ltb-true r l.naxis2 e) (omega arith)) (λ e. refl))
 
   -- agreement goes both ways
   pub agree_back : Agree l b a choice heap

@@ -1,4 +1,5 @@
--- `leading_digits` meets its contract: it counts what `take_while` takes.
+-- `leading_digits` meets its contract: it counts what `take_while` takes. The closure's test is the one thing that a lemma for all
+-- three would have to leave open, so it would say this once more.
 use Rattle.std.proofs.Common.{◌∙◌, rules, tests}
 use Rattle.std.proofs.lemmas.Iterator.{YieldsList-from_slice}
 use Rattle.std.proofs.lemmas.Iterator.Consumers.{count_from_yields_List}

@@ -1,4 +1,5 @@
--- `line_len` meets its contract: it counts what `take_while` takes.
+-- `line_len` meets its contract: it counts what `take_while` takes. The closure's test is the one thing that a lemma for all
+-- three would have to leave open, so it would say this once more.
 use Rattle.std.proofs.Common.{◌∙◌, ℕ, rules, tests}
 use Rattle.std.specs.Prelude.{nat_eq, not}
 use Rattle.std.proofs.lemmas.Iterator.{YieldsList-from_slice}

@@ -1,4 +1,5 @@
--- `eight_at` meets its contract: the upper and the lower ones of eight bytes.
+-- `eight_at` meets its contract: the upper and the lower ones of eight bytes. Each answer is `upper` or `lower` at its
+-- own number of bytes.
 use Rattle.std.proofs.Common.{arith, ◌∙◌}
 use Rattle.std.proofs.lemmas.Nat.{and_mask}
 use Rattle.cell.proofs.Numbers.{upper, lower}

@@ -2,7 +2,9 @@
 use Rattle.std.proofs.Common.{◌≡◌, ◌∙◌, ◌+◌, ◌<◌, sym, subst, List, [], ◌∷◌, ℕ, length, arith}
 use Rattle.listing.specs.Lines.{line_text}
 use Rattle.listing.proofs.Short.{line_some, line_short}
-use Rattle.output.proofs.Filling.{written_to_lem, no_room, Filled, Ended, ends_none, ends_full, more_filled}
+use Rattle.output.specs.Next.{left_in}
+use Rattle.output.proofs.Filling.{written_to_lem, no_room, Filled, Full, Ended, ends_none, ends_full, more_filled}
+use Rattle.output.proofs.Parts.fill_page.Goals.{In_default, In_default-written}
 use Rattle.output.proofs.Parts.fill_page.Goals as goal
 
 module _ (lines now : List (List ℕ)) (out₀ out : List ℕ) (at : ℕ) (f : Filled lines now out₀ out at) where
@@ -20,43 +22,45 @@ module _ (lines now : List (List ℕ)) (out₀ out : List ℕ) (at : ℕ) (f : F
     full : length out < at + length t → Ended lines now out₀ out at
     full h = subst (λ (x : List (List ℕ)). Ended lines x out₀ out at) e (ends_full lines out₀ out at t ts filled h)
 
+-- no line is next
+none_left : (c : In_default) → Ended (left_in c.args.self.now c.args.state) (left_in c.args.self.now c.loop-line.current) c.args.out.now c.loop-line.out c.loop-line.len
+none_left c = over _ _ _ _ _ c.loop-line.invariant (rw c.in_default.is at c.next_line-next.ensures)
+
+-- there is no room for the next line
+module _ (c : In_default-written) where
+  abbrev next : List ℕ
+  next = line_text c.args.self.now.header.now c.args.self.now.layout c.in-Some.field-0.line
+
+  short : Full c.loop-line.out c.loop-line.len next
+  short = no_room c.loop-line.out c.loop-line.len next (sym c.in_default-written.is ∙ c.put_line-written.ensures.to)
+
+  ended : Ended (left_in c.args.self.now c.args.state) (left_in c.args.self.now c.loop-line.current) c.args.out.now c.loop-line.out c.loop-line.len
+  ended = full _ _ _ _ _ c.loop-line.invariant _ _ (rw c.in-Some.is at c.next_line-next.ensures) short.full
+
 pub returns-in_default-clause-len : goal.returns-in_default-clause-len
-returns-in_default-clause-len c =
-    (over _ _ _ _ _ c.loop-line.invariant (rw c.in_default.is at c.next_line-next.ensures)).len
+returns-in_default-clause-len c = (none_left (goal.at.returns-in_default-clause-len c).In_default).len
 
 pub returns-in_default-clause-buffer : goal.returns-in_default-clause-buffer
-returns-in_default-clause-buffer c =
-    (over _ _ _ _ _ c.loop-line.invariant (rw c.in_default.is at c.next_line-next.ensures)).buffer
+returns-in_default-clause-buffer c = (none_left (goal.at.returns-in_default-clause-buffer c).In_default).buffer
 
 pub returns-in_default-clause-state : goal.returns-in_default-clause-state
-returns-in_default-clause-state c =
-    (over _ _ _ _ _ c.loop-line.invariant (rw c.in_default.is at c.next_line-next.ensures)).state
+returns-in_default-clause-state c = (none_left (goal.at.returns-in_default-clause-state c).In_default).state
 
 pub returns-in_default-written-clause-len : goal.returns-in_default-written-clause-len
-returns-in_default-written-clause-len c =
-    let t = line_text c.args.self.now.header.now c.args.self.now.layout c.in-Some.field-0.line in
-    let r = no_room c.loop-line.out c.loop-line.len t (sym c.in_default-written.is ∙ c.put_line-written.ensures.to) in
-    (full _ _ _ _ _ c.loop-line.invariant _ _ (rw c.in-Some.is at c.next_line-next.ensures) r.full).len
+returns-in_default-written-clause-len c = (ended (goal.at.returns-in_default-written-clause-len c).In_default-written).len
 
 pub returns-in_default-written-clause-buffer : goal.returns-in_default-written-clause-buffer
 returns-in_default-written-clause-buffer c =
-    let t = line_text c.args.self.now.header.now c.args.self.now.layout c.in-Some.field-0.line in
-    let r = no_room c.loop-line.out c.loop-line.len t (sym c.in_default-written.is ∙ c.put_line-written.ensures.to) in
-    c.put_line-written.ensures.buffer
-    ∙ r.same
-    ∙ (full _ _ _ _ _ c.loop-line.invariant _ _ (rw c.in-Some.is at c.next_line-next.ensures) r.full).buffer
+    let d = (goal.at.returns-in_default-written-clause-buffer c).In_default-written in
+    c.put_line-written.ensures.buffer ∙ (short d).same ∙ (ended d).buffer
 
 pub returns-in_default-written-clause-state : goal.returns-in_default-written-clause-state
-returns-in_default-written-clause-state c =
-    let t = line_text c.args.self.now.header.now c.args.self.now.layout c.in-Some.field-0.line in
-    let r = no_room c.loop-line.out c.loop-line.len t (sym c.in_default-written.is ∙ c.put_line-written.ensures.to) in
-    (full _ _ _ _ _ c.loop-line.invariant _ _ (rw c.in-Some.is at c.next_line-next.ensures) r.full).state
+returns-in_default-written-clause-state c = (ended (goal.at.returns-in_default-written-clause-state c).In_default-written).state
 
 pub returns-in_default-written-clause-whole : goal.returns-in_default-written-clause-whole
 returns-in_default-written-clause-whole c room none =
-    let t = line_text c.args.self.now.header.now c.args.self.now.layout c.in-Some.field-0.line in
-    let r = no_room c.loop-line.out c.loop-line.len t (sym c.in_default-written.is ∙ c.put_line-written.ensures.to) in
-    absurd (omega (arith, r.full, line_short c.args.self.now.header.now c.args.self.now.layout c.in-Some.field-0.line, c.loop-line.invariant.length_same))
+    let d = (goal.at.returns-in_default-written-clause-whole c).In_default-written in
+    absurd (omega (arith, (short d).full, line_short c.args.self.now.header.now c.args.self.now.layout c.in-Some.field-0.line, c.loop-line.invariant.length_same))
 
 pub loop-line-preserved : goal.loop-line-preserved
 loop-line-preserved c =
