@@ -40,7 +40,7 @@ fn same_pages(source: &Source, state: State, text: &[u8]) -> bool
         let Some(page) = compare_page(source, current, rest) else {
             return false;
         };
-        // An empty page is the last one, as the contract of `next_page` says. A text of length 0 is no missing one.
+        // No Option: the page after the last has no text, and `page_text` says so.
         if page.len == 0 {
             return rest.is_empty();
         }

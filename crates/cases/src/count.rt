@@ -8,7 +8,7 @@ ghost use Rattle.cases.specs.declared.count.Case.{Case};
 use super::compare;
 
 // How many cases there are, how many of them differ, the number of the first that does, from 1, and whether the file
-// ends within a case, which is told beside the rest.
+// ends within a case. No Result: a file that is cut has a tally too.
 #[derive(Clone, Copy)]
 pub struct Tally {
     pub cases: u64,

@@ -84,7 +84,7 @@ pub enum Field {
 }
 
 // The heap of a table, followed or not, from its first byte up to, and without, byte `end` of the data area. No Option
-// round the rest: `array` asks where the heap lies in either case.
+// round the rest: `array` takes it whole, and answers of one that is not followed too.
 #[derive(Clone, Copy)]
 pub struct Heap {
     pub followed: bool,

@@ -39,8 +39,7 @@ fn add_column(sum: u32, header: &[u8], layout: BinTable, c: usize) -> u32
     add_bytes(add_word(place, name.len() as u64), name)
 }
 
-// The sizes of a layout, then its columns. They go by index: the sum is of `tfields` columns, and a `take` of the array
-// gives fewer where a layout says more than 64.
+// The sizes of a layout, then its columns. They go by index, by which `column_name` finds a name.
 #[tactic(auto, using(crate::proofs::Sums::sizes_first, crate::proofs::Sums::column_next, crate::proofs::Sums::columns_done))]
 pub fn sum_layout(header: &[u8], layout: BinTable) -> u32
     requires { layout.tfields ≤ 64 }

@@ -103,7 +103,7 @@ module _ (m : ℕ) where
       ∙ ap (λ (t : Bool). among c is || t) (among_none c m m b)
       ∙ or-false (among c is)
 
-  columns_same : (l : BinTable) (a is : List ℕ) (heap : Bool) → (fits l a ≡ true → l.tfields ≤ m)
+  pub columns_same : (l : BinTable) (a is : List ℕ) (heap : Bool) → (fits l a ≡ true → l.tfields ≤ m)
       → open_with l a (listed (in_places (replicate m m) is)) heap ≡ open_with l a (listed is) heap
   unfolding open_with
   columns_same l a is heap few =

@@ -68,7 +68,7 @@ module _ (h : List ℕ) (l : BinTable) (a s : List ℕ) where
       let n : l.naxis2 - 0 ≡ l.naxis2 = omega arith in
       rw (e, f, k, ok_start rows l.naxis2 0 (omega arith)) (ap (entry_lines 0) (left_start rows l.naxis2 (l.naxis2 - 0) 0 ∙ rw n))
 
-  open_lines_lem : (r : Result TableData Refusal) → opening_of r ≡ open_with l a all_columns true → open_lines r ≡ after_columns l a
+  pub open_lines_lem : (r : Result TableData Refusal) → opening_of r ≡ open_with l a all_columns true → open_lines r ≡ after_columns l a
   unfolding open_with
   open_lines_lem (Err q) e = rw (← e)
   open_lines_lem (Ok d) e =

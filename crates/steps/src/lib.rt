@@ -51,7 +51,7 @@ pub fn line_feeds(text: &[u8]) -> usize
     text.iter().filter(|byte| **byte == LINE_FEED).count()
 }
 
-// What a line says. In a `match` on the words the last arm comes by 35 ways, which no answer goes through, and `==`
+// What a line says. By a `match` on the words the proof of the last arm, which comes by 35 ways, did not close; `==`
 // takes no array beside a slice.
 #[tactic(auto, using(ascii::proofs::Library::same_pointwise), unfolding(ascii::specs::Text::bytes, crate::specs::Line::says))]
 pub fn parse_command(line: &[u8]) -> Option<Command>

@@ -147,7 +147,7 @@ fn entry_in(area: &[u8], column: Column, row: u64, c: usize, field: Field, idx: 
 }
 
 // The entry at an index of the field of column c, which lies at a place. Seven values and no struct: the cell read, its
-// only caller, has them apart, and `entry_in` takes those of them that the long way has too.
+// only caller, has them apart, and `entry_in` is the part that the long way shares.
 pub fn entry_of(
     area: &[u8],
     at: u64,
