@@ -3,17 +3,18 @@
 use Rattle.std.specs.Prelude.{Result, Err, Ok}
 use Prim.Native.Nat.{ℕ, ◌-◌}
 use mathlib.Core.Path.{◌≡◌, refl, sym, ◌∙◌, ap}
-use mathlib.Core.List.{List, [], ◌∷◌}
-use lib.ListN.{get_or}
+use mathlib.Core.List.{List, [], ◌∷◌, ◌++◌}
+use lib.ListN.{get_or, replicate}
 use Rattle.refusal.specs.declared.Refusal.{Refusal}
 use Rattle.refusal.specs.declared.Refusal.TheVariants as R
 use Rattle.refusal.specs.Refusal.{Outcome, accepted, refused, number_of, place_of, outcome_of}
 
--- the causes by their numbers, with a place
+-- the causes by their numbers, with a place; 15 to 21 are no number of a cause
 abbrev causes : ℕ → List Refusal
 causes p =
-    R.BadLength ∷ R.MissingEnd ∷ R.RepeatedName p ∷ R.MissingName p ∷ R.UnreadableValue p ∷ R.InvalidValue p ∷ R.AboveLimit p ∷ R.BadForm p
-    ∷ R.RowSizeMismatch ∷ R.Mismatch ∷ R.NoColumn ∷ R.NoSuchRow p ∷ R.ArrayOutsideHeap p ∷ R.ShortList p ∷ []
+    (R.BadLength ∷ R.MissingEnd ∷ R.RepeatedName p ∷ R.MissingName p ∷ R.UnreadableValue p ∷ R.InvalidValue p ∷ R.AboveLimit p ∷ R.BadForm p
+    ∷ R.RowSizeMismatch ∷ R.Mismatch ∷ R.NoColumn ∷ R.NoSuchRow p ∷ R.ArrayOutsideHeap p ∷ R.ShortList p ∷ [])
+    ++ (replicate 7 R.BadLength ++ (R.BufferMismatch ∷ []))
 
 cause : (r : Refusal) → get_or (causes (place_of r)) (number_of r - 1) R.BadLength ≡ r
 cause R.BadLength = refl
@@ -30,6 +31,7 @@ cause R.NoColumn = refl
 cause (R.NoSuchRow r) = refl
 cause (R.ArrayOutsideHeap c) = refl
 cause (R.ShortList n) = refl
+cause R.BufferMismatch = refl
 
 -- the check that an outcome is
 abbrev pub check_of : Outcome → Result Unit Refusal

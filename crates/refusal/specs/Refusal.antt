@@ -29,6 +29,7 @@ number_of R.NoColumn = 11
 number_of (R.NoSuchRow r) = 12
 number_of (R.ArrayOutsideHeap c) = 13
 number_of (R.ShortList n) = 14
+number_of R.BufferMismatch = 22
 
 abbrev pub place_of : Refusal → ℕ
 place_of R.BadLength = 0
@@ -45,6 +46,7 @@ place_of R.NoColumn = 0
 place_of (R.NoSuchRow r) = r
 place_of (R.ArrayOutsideHeap c) = c
 place_of (R.ShortList n) = n
+place_of R.BufferMismatch = 0
 
 -- the outcome that the code's answer is, whatever it returns where nothing is refused
 abbrev pub outcome_of : {A : Type 0} → Result A Refusal → Outcome

@@ -28,6 +28,8 @@ pub enum Refusal {
     NoSuchRow { row: usize },
     ArrayOutsideHeap { column: usize },
     ShortList { cells: u64 },
+    // That of turning: the two buffers differ in length, or are too short.
+    BufferMismatch,
 }
 
 // `refused`, the number and the place.
@@ -60,6 +62,7 @@ pub fn number(refusal: Refusal) -> u64
         Refusal::NoSuchRow { row: _ } => 12,
         Refusal::ArrayOutsideHeap { column: _ } => 13,
         Refusal::ShortList { cells: _ } => 14,
+        Refusal::BufferMismatch => 22,
     }
 }
 
@@ -82,5 +85,6 @@ pub fn place(refusal: Refusal) -> u64
         Refusal::NoSuchRow { row } => row as u64,
         Refusal::ArrayOutsideHeap { column } => column as u64,
         Refusal::ShortList { cells } => cells,
+        Refusal::BufferMismatch => 0,
     }
 }
