@@ -16,7 +16,7 @@ use Rattle.walk.specs.declared.TableData.{TableData}
 use Rattle.walk.specs.Plain.{row_entries}
 use Rattle.walk.specs.Walk.{start, entries_from}
 use Rattle.walk.specs.Step.{listed, fits, choice_ok, choice_of, belongs, cursor_at, cursor_left, open_with}
-use Rattle.walk.proofs.Inside.{limits}
+use Rattle.layout.proofs.Sizes.{limits}
 use Rattle.walk.proofs.Follows.{ok_start}
 use Rattle.walk.proofs.InOrder.{left_start}
 use Rattle.exports.specs.declared.Start.{Start}

@@ -4,3 +4,4 @@ pub mod Named
 pub mod First
 pub mod EitherCase
 pub mod Ok
+pub mod Sizes

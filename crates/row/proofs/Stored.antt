@@ -26,7 +26,8 @@ use Rattle.walk.specs.declared.Entry.{Entry}
 use Rattle.walk.specs.Plain.{column_of, field_of, chosen, columns_entries, row_entries}
 use Rattle.walk.specs.Walk.{read_row, Outcome, Gathered, all_cells, outside, gather, row_outcome, rest, walk_step}
 use Rattle.walk.specs.Step.{belongs, state_of, StepResult, with_cursor, cursor_step}
-use Rattle.walk.proofs.Inside.{fits_layout, limits, column_in_row, row_in_main, data_bound, items_bound}
+use Rattle.layout.proofs.Sizes.{limits, data_bound}
+use Rattle.walk.proofs.Inside.{fits_layout, column_in_row, row_in_main, items_bound}
 use Rattle.walk.proofs.Laws.{from_row}
 use Rattle.walk.proofs.Steps.{belongs_fits}
 use Rattle.row.specs.declared.plan.RowPlan.{RowPlan}

@@ -9,7 +9,7 @@ use layout::{BinTable, TFIELDS_LIMIT};
 use walk::TableData;
 
 // The layout keeps every limit and sum, and the data area is long enough.
-#[tactic(auto, using(walk::proofs::Inside::data_bound), unfolding(walk::specs::Step::fits))]
+#[tactic(auto, using(layout::proofs::Sizes::data_bound), unfolding(walk::specs::Step::fits))]
 pub fn fits(layout: BinTable, area: &[u8]) -> bool
     ensures { result ≡ fits layout area.now }
 {

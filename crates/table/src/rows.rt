@@ -44,7 +44,7 @@ impl TableRow<'_> {
     ghost use Rattle.table.specs.TableRow.{entries_of};
 
     // The place of the row, in which its columns lie.
-    #[tactic(auto, using(walk::proofs::Inside::fits_layout, walk::proofs::Inside::column_in_row, walk::proofs::Inside::row_in_main, walk::proofs::Inside::data_bound))]
+    #[tactic(auto, using(walk::proofs::Inside::fits_layout, walk::proofs::Inside::column_in_row, walk::proofs::Inside::row_in_main, layout::proofs::Sizes::data_bound))]
     pub fn span(&self) -> RowSpan
         ensures start { result.start ≡ self.now.cursor.row * self.now.layout.now.naxis1 }
         ensures heap { result.heap ≡ heap_of self.now.layout.now self.now.cursor.heap }

@@ -5,51 +5,23 @@ use Prim.Native.Nat.{ℕ, zero, suc, ◌+◌, ◌*◌, ◌≤◌, ◌<◌}
 use mathlib.Core.Path.{◌≡◌}
 use mathlib.Core.Bool.{Bool, true, ◌&&◌}
 use mathlib.Core.List.{List, [], ◌∷◌}
-use native.Mathlib.Nat.{mul-le-mul_right, mul-le-mul_left, not-suc-le-zero, le_of_suc-le-suc, le_trans}
+use native.Mathlib.Nat.{mul-le-mul_right, not-suc-le-zero, le_of_suc-le-suc, le_trans}
 use native.Mathlib.Omega.{arith}
 use lib.ListN.{length, get_or, take, length-append}
 use lib.Dec.{eqb, leb, ltb}
-use borrow.Author.Tests.{leb-true, eqb-true, ltb-true}
+use borrow.Author.Tests.{eqb-true, ltb-true}
 use Rattle.ascii.proofs.Cases.{by_test, both}
 use Rattle.tform.specs.Width.{count_ok}
 use Rattle.layout.specs.declared.Column.{Column}
 use Rattle.layout.specs.declared.BinTable.{BinTable}
-use Rattle.layout.specs.Layout.{data_limit, no_column, column_bytes, columns_of, main_size, data_size, columns_ok, layout_ok}
+use Rattle.layout.specs.Layout.{data_limit, no_column, column_bytes, main_size, data_size, columns_ok, layout_ok}
+use Rattle.layout.proofs.Sizes.{Limits, limits, data_bound}
 use Rattle.cell.specs.Field.{ItemsInside}
 use Rattle.cell.proofs.Inside.{field_inside, inside_wider, size_bound}
 use Rattle.walk.specs.declared.Entry.{Entry}
 use Rattle.walk.specs.Plain.{column_of, field_at, field_of, chosen, column_size, columns_entries, row_entries}
 use Rattle.walk.specs.Step.{fits}
 use Rattle.walk.proofs.Laws.{column_length}
-
--- the limits and sums of a layout, one by one
-pub record Limits (l : BinTable) : Type 0 where
-  pub row_bytes : l.naxis1 ≤ 1048576
-  pub rows : l.naxis2 ≤ 16777216
-  pub heap_bytes : l.pcount ≤ 2147483647
-  pub columns : l.tfields ≤ 64
-  pub heap_from : main_size l ≤ l.theap
-  pub heap_to : l.theap ≤ data_size l
-  pub sums : columns_ok l.naxis1 0 (columns_of l) ≡ true
-
-pub and_l : (t u : Bool) → (t && u) ≡ true → t ≡ true
-and_l t u e = (both t u e).0
-
-pub and_r : (t u : Bool) → (t && u) ≡ true → u ≡ true
-and_r t u e = (both t u e).1
-
-pub limits : (l : BinTable) → layout_ok l ≡ true → Limits l
-unfolding layout_ok
-limits l e =
-    record {
-      row_bytes = leb-true _ _ (search (and_l, and_r) depth 9);
-      rows = leb-true _ _ (search (and_l, and_r) depth 9);
-      heap_bytes = leb-true _ _ (search (and_l, and_r) depth 9);
-      columns = leb-true _ _ (search (and_l, and_r) depth 9);
-      heap_from = leb-true _ _ (search (and_l, and_r) depth 9);
-      heap_to = leb-true _ _ (search (and_l, and_r) depth 9);
-      sums = search (and_l, and_r) depth 9;
-    }
 
 pub fits_layout : (l : BinTable) (a : List ℕ) → fits l a ≡ true → layout_ok l ≡ true
 unfolding fits
@@ -102,14 +74,9 @@ module _ (l : BinTable) (ok : layout_ok l ≡ true) where
   items_in_data a heap r c hr hc =
       field_inside a (field_at l r c) (column_of l c) heap l.theap (data_size l) (omega (arith, field_in_main r c hr hc))
 
-  pub data_bound : data_size l ≤ data_limit
-  data_bound =
-      let lim = limits l ok in
-      omega (arith, lim.heap_bytes, mul-le-mul_right l.naxis2 lim.row_bytes, mul-le-mul_left 1048576 lim.rows)
-
   -- so no place of an item wraps
   pub items_bound : (a : List ℕ) (heap : Bool) (r c : ℕ) → r < l.naxis2 → c < l.tfields → ItemsInside data_limit (field_of l a heap r c)
-  items_bound a heap r c hr hc = inside_wider (data_size l) data_limit (field_of l a heap r c) data_bound (items_in_data a heap r c hr hc)
+  items_bound a heap r c hr hc = inside_wider (data_size l) data_limit (field_of l a heap r c) (data_bound l ok) (items_in_data a heap r c hr hc)
 
   -- ---- how many entries there are at most
 
@@ -134,5 +101,5 @@ module _ (l : BinTable) (ok : layout_ok l ≡ true) where
       by_test (λ (es : List Entry). length es ≤ 1126037345796096) (ltb r l.naxis2)
       (λ t.
       le_trans (columns_bound a choice heap r (ltb-true r l.naxis2 t) 0 l.tfields (omega arith))
-      (le_trans (mul-le-mul_right (data_size l + 1) (limits l ok).columns) (omega (arith, data_bound))))
+      (le_trans (mul-le-mul_right (data_size l + 1) (limits l ok).columns) (omega (arith, data_bound l ok))))
       (λ t. omega arith)
