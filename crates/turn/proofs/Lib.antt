@@ -1,0 +1,4 @@
+mod Part
+mod Steps
+pub mod Turned
+pub mod Calls
