@@ -11,8 +11,8 @@ use Rattle.refusal.specs.Refusal.{Outcome, accepted, refused}
 abbrev pub at_place : ℕ → ℕ → List ℕ → ℕ → List ℕ
 at_place rows width area p = map (λ (r : ℕ). get_or area (r * width + p) 0) (range_with_len 0 rows)
 
--- a data area turned: the bytes at place 0 of all rows, then those at place 1, and so on, so that byte p of row r goes to
--- p * rows + r; then what stands after the main size, as it was
+-- a data area turned: the bytes at place 0 of all rows, then those at place 1, and so on, so that byte p of row r goes
+-- to p * rows + r; then what stands after the main size, as it was
 unfoldable pub turned : ℕ → ℕ → List ℕ → List ℕ
 turned rows width area = flat_map (at_place rows width area) (range_with_len 0 width) ++ drop (rows * width) area
 
