@@ -211,8 +211,8 @@ form='a form is a count of 8,388,608 at most, or none, and a letter of L X B A I
 form="$form; or a count of 0 or 1, or none, then P or Q and then one of these letters"
 refused 's/1J/3Z/' "8 2: TFORM2 is no form that can be read: $form"
 refused 's/1J/2PE/' "8 2: TFORM2 is no form that can be read: $form"
-refused 's/1J/1I/' '9 0: the bytes of the columns do not add up to NAXIS1'
 none='the bytes of the columns do not add up to NAXIS1; a field of P or Q with count 0 takes none'
+refused 's/1J/1I/' "9 0: $none"
 refused 's/1J/0PE/' "9 0: $none"
 refused 's/1J/00QD/' "9 0: $none"
 need='the data need NAXIS1 x NAXIS2 + PCOUNT bytes'

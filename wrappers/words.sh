@@ -17,14 +17,6 @@ first_missing() { # TABLE
         }'
 }
 
-# Whether a record before END has a form of P or Q with count 0.
-empty_descriptor() { # TABLE
-    LC_ALL=C tr -c ' -~' '?' <"$1" | LC_ALL=C fold -b -w 80 | LC_ALL=C awk -v "form== +'00*[PQ]" '
-        length($0) == 80 && /^END *$/ { exit }
-        /^TFORM[1-9]/ && $0 ~ form { found = 1; exit }
-        END { exit !found }'
-}
-
 # A whole FITS file begins with the record SIMPLE.
 whole_file() { # TABLE
     [ "$(head -c 10 "$1" | LC_ALL=C tr -c ' -~' '?')" = 'SIMPLE  = ' ]
@@ -90,13 +82,7 @@ words() { # NUMBER PLACE TABLE
             'letter of L X B A I J E K D C M; or a count of 0 or 1, or none, then P or Q and then one of these ' \
             'letters'
         ;;
-    9)
-        if empty_descriptor "$3"; then
-            echo 'the bytes of the columns do not add up to NAXIS1; a field of P or Q with count 0 takes none'
-        else
-            echo 'the bytes of the columns do not add up to NAXIS1'
-        fi
-        ;;
+    9) echo 'the bytes of the columns do not add up to NAXIS1; a field of P or Q with count 0 takes none' ;;
     10)
         if [ "$(wc -c <"$3")" -gt 65536 ]; then
             echo 'the table needs more than the first 65,536 bytes of the file, and no more are read'

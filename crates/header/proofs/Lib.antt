@@ -4,3 +4,4 @@ pub mod Indexed
 pub mod Pass
 pub mod Lengths
 pub mod Lookup
+pub mod Parted

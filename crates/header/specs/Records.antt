@@ -1,7 +1,7 @@
 -- The records of a header up to END and the names that they hold (FORMAT.md, sections 2 and 4; the standard, 4.4.1), the first repeated name
 -- (section 5), and where a header ends in a file (section 6).
 -- Assumes nothing.
-use Rattle.std.specs.Prelude.{ℕ, ◌+◌, ◌*◌, ◌/◌, min, List, [], ◌∷◌, ◌++◌, map, Bool, true, false, ◌&&◌, ◌||◌, cond, length, Option, Some, None}
+use Rattle.std.specs.Prelude.{ℕ, ◌+◌, ◌*◌, ◌/◌, min, List, [], ◌∷◌, ◌++◌, map, Bool, true, false, ◌&&◌, ◌||◌, cond, length, take, drop, Option, Some, None}
 use Rattle.ascii.specs.Text.{same}
 use Rattle.card.specs.Record.{card_at, is_end, name_of}
 use Rattle.keyword.specs.Names.{range, once_names, later, position}
@@ -47,3 +47,10 @@ repeated ns = repeated_after [] ns
 -- latest, and if there is no END, with the file
 unfoldable pub header_len : List ℕ → ℕ
 header_len f = cond (has_end (records f)) (min (length f) ((length (before_end (records f)) / 36 + 1) * 2880)) (length f)
+
+-- so a file has a header, and the data after it
+abbrev pub header_of : List ℕ → List ℕ
+header_of f = take (header_len f) f
+
+abbrev pub data_of : List ℕ → List ℕ
+data_of f = drop (header_len f) f

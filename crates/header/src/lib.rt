@@ -4,7 +4,7 @@
 mod records;
 
 ghost use Rattle.std.specs.Prelude.{◌≡◌};
-ghost use Rattle.header.specs.Records.{header_len};
+ghost use Rattle.header.specs.Records.{header_len, header_of, data_of};
 ghost use Rattle.refusal.specs.Refusal.{outcome_of};
 ghost use Rattle.header.specs.Checks.{bad_length, checked, first_at, index_by};
 
@@ -68,4 +68,13 @@ pub fn header_len(file: &[u8]) -> usize
     (0..size / RECORD_BYTES)
         .find(|k| card::is_end(file, *k))
         .map_or(size, |k| records::block_end(size, k))
+}
+
+// The header of a file, through the block that has END, and the data after it.
+#[tactic(auto, using(crate::proofs::Parted::header_inside))]
+pub fn split_file(file: &[u8]) -> (&[u8], &[u8])
+    ensures header { result.0.now ≡ header_of file.now }
+    ensures data { result.1.now ≡ data_of file.now }
+{
+    file.split_at(header_len(file))
 }

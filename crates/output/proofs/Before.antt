@@ -24,7 +24,7 @@ use Rattle.steps.specs.Split.{before, lines_of, line_at, line_feeds}
 use Rattle.steps.specs.Line.{Says, says, choose_all, choose, heap, cell, row, bad, command_of}
 use Rattle.steps.specs.Line as S
 use Rattle.steps.proofs.Lines.{line_length, lines_next, lines_none, feeds_next}
-use Rattle.output.specs.Cells.{header_of, data_of}
+use Rattle.header.specs.Records.{header_of, data_of}
 use Rattle.output.specs.Replay as R
 use Rattle.output.specs.State.{steps_from, left, file_left}
 use Rattle.output.specs.declared.settings.Settings.{Settings}

@@ -8,7 +8,7 @@ use lib.Seq.{take_at, drop_at}
 use Rattle.ascii.specs.Text.{bytes, same, spaces}
 use Rattle.card.specs.Record.{card_at, is_end}
 use Rattle.keyword.specs.Names.{range}
-use Rattle.header.specs.Records.{records, has_end, before_end, header_len}
+use Rattle.header.specs.Records.{records, has_end, before_end, header_len, header_of, data_of}
 use Rattle.tform.specs.Width.{among, letter_width}
 use Rattle.layout.specs.Names.{part_of, column_name}
 use Rattle.bintable.specs.Entry as B
@@ -21,7 +21,7 @@ use Rattle.walk.proofs.Examples.{area}
 use Rattle.walk.proofs.Together.{padded, header, one_block, table, enters, opens}
 use Rattle.ascii.specs.Number.{decimal_in}
 use Rattle.listing.specs.Lines.{line, table_line, column_line, cell_line, end_line}
-use Rattle.output.specs.Cells.{header_of, data_of, entry_lines, column_lines, entry_output, cells_lines}
+use Rattle.output.specs.Cells.{entry_lines, column_lines, entry_output, cells_lines}
 
 -- the bytes of the file
 abbrev pub file : List ℕ

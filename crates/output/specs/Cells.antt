@@ -1,7 +1,7 @@
 -- What `cells` prints (FORMAT.md, section 16).
 -- Assumes nothing.
-use Rattle.std.specs.Prelude.{ℕ, zero, suc, ◌+◌, min, true, List, [], ◌∷◌, ◌++◌, take, drop}
-use Rattle.header.specs.Records.{header_len}
+use Rattle.std.specs.Prelude.{ℕ, zero, suc, ◌+◌, min, true, List, [], ◌∷◌, ◌++◌}
+use Rattle.header.specs.Records.{header_of, data_of}
 use Rattle.refusal.specs.Refusal as H
 use Rattle.layout.specs.declared.BinTable.{BinTable}
 use Rattle.bintable.specs.Entry as B
@@ -15,13 +15,6 @@ use Rattle.listing.specs.Lines.{table_line, column_line, cell_line, end_line, re
 -- how many bytes of a file are looked at: the programs take the first of them
 abbrev pub file_limit : ℕ
 file_limit = 65536
-
--- the header of a file, through the block that has END, and the data after it
-abbrev pub header_of : List ℕ → List ℕ
-header_of f = take (header_len f) f
-
-abbrev pub data_of : List ℕ → List ℕ
-data_of f = drop (header_len f) f
 
 -- the lines of some entries where n cells are shown already: a line a cell, then the end with the cells shown; at a 13 the refusal in place of what
 -- would follow. The count is the cursor's, with its stop

@@ -13,7 +13,7 @@ use Rattle.listing.specs.Lines.{cell_line, refused_line, row_line, seek_line, at
 use Rattle.steps.specs.Split.{lines_of}
 use Rattle.steps.specs.Line.{Says, says, choose_all, choose, heap, cell, row, bad}
 use Rattle.steps.specs.Line as S
-use Rattle.output.specs.Cells.{header_of, data_of}
+use Rattle.header.specs.Records.{header_of, data_of}
 
 -- ---- a step
 

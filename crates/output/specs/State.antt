@@ -15,7 +15,8 @@ use Rattle.output.specs.declared.State.{State}
 use Rattle.output.specs.declared.State.TheVariants as S
 use Rattle.output.specs.declared.Next.{Next}
 use Rattle.output.specs.declared.Source.{Source}
-use Rattle.output.specs.Cells.{header_of, data_of, entry_lines, column_lines, after_columns, entry_output}
+use Rattle.header.specs.Records.{header_of, data_of}
+use Rattle.output.specs.Cells.{entry_lines, column_lines, after_columns, entry_output}
 use Rattle.output.specs.Replay.{step_lines}
 
 -- the steps from place `at` of their file on. The number of a line is one more than the line feeds before it

@@ -10,7 +10,8 @@ ghost use Rattle.std.specs.Prelude.{◌≡◌, ◌≤◌, ◌+◌, [], length, t
 ghost use Rattle.layout.specs.Layout.{empty_layout};
 ghost use Rattle.bintable.specs.Entry.{entry, entry_of, layout_in};
 ghost use Rattle.ascii.specs.Buffer.{put_in};
-ghost use Rattle.output.specs.Cells.{file_limit, header_of, data_of, cells_lines};
+ghost use Rattle.header.specs.Records.{header_of, data_of};
+ghost use Rattle.output.specs.Cells.{file_limit, cells_lines};
 ghost use Rattle.output.specs.Replay.{replay_lines};
 ghost use Rattle.output.specs.State.{file_left, left_of};
 ghost use Rattle.output.specs.Next.{left_in, lines_by};
@@ -137,7 +138,7 @@ impl Source<'_> {
         ensures state { left_of self.now result.state ≡ page_rest (length out.old) (left_of self.now state) }
         ensures whole { Whole (length self.now.file.now + 128) (length out.old) result.len (left_of self.now state) }
     {
-        let (header, area) = split_file(self.file);
+        let (header, area) = header::split_file(self.file);
         let parts = Parts {
             header,
             layout: self.layout,
@@ -157,20 +158,11 @@ pub fn first_bytes(file: &[u8]) -> &[u8]
     &file[..file.len().min(FILE_LIMIT)]
 }
 
-// The header of a file, through the block that has END, and the data after it.
-#[tactic(auto, using(crate::proofs::Parted::header_inside))]
-fn split_file(file: &[u8]) -> (&[u8], &[u8])
-    ensures header { result.0.now ≡ header_of file.now }
-    ensures data { result.1.now ≡ data_of file.now }
-{
-    file.split_at(header::header_len(file))
-}
-
 // The entry of a file.
 pub fn parse_file(file: &[u8]) -> Result<BinTable, Refusal>
     ensures { entry_of result ≡ entry (header_of file.now) (data_of file.now) }
 {
-    let (header, area) = split_file(file);
+    let (header, area) = header::split_file(file);
     bintable::parse(header, area)
 }
 
@@ -208,7 +200,7 @@ pub fn replay_start(file: &[u8], steps: &[u8]) -> Start
 {
     match parse_file(file) {
         Ok(layout) => {
-            let (_, area) = split_file(file);
+            let (_, area) = header::split_file(file);
             let state = settings::first_step(layout, area, first_bytes(steps));
             Start { layout, state }
         }

@@ -1,0 +1,68 @@
+// The first required name that a header does not have.
+ghost use Rattle.std.specs.Prelude.{◌≡◌, ℕ, List};
+ghost use Rattle.keyword.specs.Names.{text_of};
+ghost use Rattle.header.specs.Checks.{index_by};
+ghost use Rattle.header.specs.Records.{header_of};
+ghost use Rattle.words.specs.Words.{missing, first_missing, required_text};
+
+use header::Entry;
+use keyword::Keyword;
+
+// The required names, in the order of their checks.
+const REQUIRED: [Keyword; 8] = [
+    Keyword::Xtension,
+    Keyword::Bitpix,
+    Keyword::Naxis,
+    Keyword::Naxis1,
+    Keyword::Naxis2,
+    Keyword::Pcount,
+    Keyword::Gcount,
+    Keyword::Tfields,
+];
+
+// The text of a name.
+#[tactic(auto, unfolding(ascii::specs::Text::bytes))]
+fn text_of(keyword: Keyword) -> &'static str
+    ensures { result.now ≡ text_of keyword }
+{
+    match keyword {
+        Keyword::Xtension => "XTENSION",
+        Keyword::Bitpix => "BITPIX",
+        Keyword::Naxis => "NAXIS",
+        Keyword::Naxis1 => "NAXIS1",
+        Keyword::Naxis2 => "NAXIS2",
+        Keyword::Pcount => "PCOUNT",
+        Keyword::Gcount => "GCOUNT",
+        Keyword::Tfields => "TFIELDS",
+        Keyword::Theap => "THEAP",
+    }
+}
+
+// Whether a header, by its index, has no record of a name.
+#[tactic(auto, using(header::proofs::Lookup::slot_first))]
+fn is_missing(index: &[Entry], keyword: Keyword) -> bool
+    ensures { (h : List ℕ) → index.now ≡ index_by h → result ≡ missing h keyword }
+{
+    header::record_of(index, keyword.slot()).is_none()
+}
+
+// The first of the required names that no record has.
+fn first_missing(header: &[u8]) -> Option<Keyword>
+    ensures { result ≡ first_missing header.now }
+{
+    let parsed = header::parse(header);
+    REQUIRED
+        .iter()
+        .find(|keyword| is_missing(&parsed.index, **keyword))
+        .copied()
+}
+
+// That of a file, as text.
+pub fn missing(file: &[u8]) -> &'static str
+    ensures { result.now ≡ required_text (first_missing (header_of file.now)) }
+{
+    match first_missing(header::split_file(file).0) {
+        Some(keyword) => text_of(keyword),
+        None => "a required keyword",
+    }
+}
