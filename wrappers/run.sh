@@ -1,6 +1,7 @@
-# What ./cells and ./replay share: they read this file, set `name` to the program's and call these functions, in the
-# order in which they stand here. Status: 0 all was printed, 1 the program refused something, 2 it could not be run.
-# The program reads its files in the folder that it is run in, so it is run in a temporary one, `room`/run.
+# What ./cells, ./replay and ./coentrift share: they read this file, set `name` to the program's and call these
+# functions, in the order in which they stand here; ./coentrift calls `build` alone. Status: 0 all was printed, 1 the
+# program refused something, 2 it could not be run. `cells` and `replay` read their files in the folder that they are
+# run in, so they are run in a temporary one, `room`/run.
 # shellcheck shell=sh disable=SC2154
 . "$root/wrappers/words.sh"
 
@@ -23,14 +24,19 @@ misused() {
     exit 2
 }
 
-prepare() {
-    (true >&1) 2>/dev/null || fail 'standard output is closed'
+# A temporary folder, which goes when the script ends.
+make_room() {
     room=''
     trap '[ -z "$room" ] || rm -rf "$room"' EXIT
     trap 'exit 129' HUP
     trap 'exit 130' INT
     trap 'exit 143' TERM
     room=$(mktemp -d) || fail 'cannot make a temporary folder'
+}
+
+prepare() {
+    (true >&1) 2>/dev/null || fail 'standard output is closed'
+    make_room
     { mkdir "$room/run" && mkfifo "$room/pipe"; } || fail 'cannot write to the temporary folder'
 }
 
@@ -93,8 +99,9 @@ progress() { # NUMBER OF CRATES
     done
 }
 
-# Runs rt where the program is not there or is older than one of its sources.
-build() {
+# Runs rt where the program is not there or is older than one of its sources. The arguments, if any, are for the
+# program, which rt runs too.
+build() { # [ARGUMENT ..]
     program=$root/crates/$name/out/$name
     why="crates/$name/out/$name is not there"
     if [ -x "$program" ]; then
@@ -106,9 +113,10 @@ build() {
         fail "$why, and the Rattle toolchain's command rt, which builds it, is not on the PATH"
     many=$(crates | wc -l)
     say "$why: building, which takes some minutes if all of its $((many)) crates are to be proved"
+    [ -n "${room-}" ] || make_room
     : >"$room/began"
-    # rt runs what it has built, here where there is no table; only what it says of the build is looked at
-    (cd "$root/crates/$name" && rt run 2>&1 >/dev/null </dev/null; echo $? >"$room/status") | progress "$((many))"
+    # rt runs what it has built; only what it says of the build is looked at
+    (cd "$root/crates/$name" && rt run "$@" 2>&1 >/dev/null </dev/null; echo $? >"$room/status") | progress "$((many))"
     if [ "$(cat "$room/status")" -ne 0 ]; then
         sed '/^rt: chose /d; /: begins with what a check kept /d; /^checked /d; /: proved$/d; /: modules loaded=/d; /^logic=proved/d; /^logic /d; /^axioms /d' "$room/log" >&2
         fail 'the build failed'

@@ -4,7 +4,7 @@
 
 mod pages;
 
-ghost use Rattle.std.specs.Prelude.{◌≡◌, ◌≤◌, [], length, take};
+ghost use Rattle.std.specs.Prelude.{◌≡◌, ◌≤◌, [], length, take, IfOk, IfSome};
 ghost use Rattle.output.specs.Cells.{file_limit};
 ghost use Rattle.output.specs.State.{file_left};
 
@@ -20,43 +20,44 @@ pub fn file_buffer() -> [u8; FILE_LIMIT]
     [0; FILE_LIMIT]
 }
 
-// Reads until the buffer is full, the file ends or a read fails. How many bytes were read: the library's calls that
-// read to the end fill a Vec, and `read_exact` does not say how far it came.
-fn fill(file: &mut File, buffer: &mut [u8]) -> usize
-    ensures { result ≤ length buffer.new }
+// Reads until the buffer is full or the file ends. How many bytes were read: the library's calls that read to the end
+// fill a Vec, and `read_exact` does not say how far it came.
+fn fill(file: &mut File, buffer: &mut [u8]) -> io::Result<usize>
+    ensures { IfOk result (λ n. n ≤ length buffer.new) }
 {
     let mut n: usize = 0;
     while n < buffer.len() {
-        let Ok(read) = file.read(&mut buffer[n..]) else {
-            return n;
-        };
+        let read = file.read(&mut buffer[n..])?;
         if read == 0 {
-            return n;
+            return Ok(n);
         }
         n += read;
     }
-    n
+    Ok(n)
 }
 
-// The first bytes of a file, as many as the buffer takes: the part of it that they fill. A missing file counts as an
-// empty one, and so does one whose name is not UTF-8, since the standard library opens none.
+// The first bytes of a file, as many as the buffer takes: the part of it that they fill. None where the file is missing
+// or cannot be read, as one whose name is not UTF-8, since the standard library opens none.
+pub fn load<'a>(rt: &HostRuntime, name: &[u8], buffer: &'a mut [u8]) -> Option<&'a [u8]>
+    ensures { IfSome result (λ s. length s.now ≤ length buffer.old) }
+{
+    let path = std::str::from_utf8(name).ok()?;
+    let mut file = File::open(rt, path).ok()?;
+    let n = fill(&mut file, buffer).ok()?;
+    Some(&buffer[..n])
+}
+
+// The same, where a file that cannot be read counts as an empty one.
 pub fn read_file<'a>(rt: &HostRuntime, name: &[u8], buffer: &'a mut [u8]) -> &'a [u8]
     ensures { length result.now ≤ length buffer.old }
 {
-    let Ok(path) = std::str::from_utf8(name) else {
-        return &[];
-    };
-    let Ok(mut file) = File::open(rt, path) else {
-        return &[];
-    };
-    let n = fill(&mut file, buffer);
-    &buffer[..n]
+    load(rt, name, buffer).unwrap_or(&[])
 }
 
-// Writes the first `len` bytes of a text to standard output, all of it where it has fewer. A write that fails says
-// nothing. The length goes apart, so that no caller has to prove that it lies within the text.
-pub fn write_text(rt: &HostRuntime, text: &[u8], len: usize) {
-    let _ = io::writer(rt).write_all(text.get(..len).unwrap_or(text));
+// Writes the first `len` bytes of a text to standard output, all of it where it has fewer. The length goes apart, so
+// that no caller has to prove that it lies within the text.
+pub fn write_text(rt: &HostRuntime, text: &[u8], len: usize) -> io::Result<()> {
+    io::writer(rt).write_all(text.get(..len).unwrap_or(text))
 }
 
 // Prints what is left to print of the first bytes of a file and of its steps, one page after the other. In the state

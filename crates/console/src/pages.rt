@@ -15,7 +15,7 @@ fn print_page(rt: &HostRuntime, source: &Source, state: State) -> Page
 {
     let mut out = [0u8; PAGE_ROOM];
     let page = source.next_page(state, &mut out);
-    super::write_text(rt, &out, page.len);
+    let _ = super::write_text(rt, &out, page.len);
     page
 }
 

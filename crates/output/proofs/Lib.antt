@@ -7,3 +7,4 @@ pub mod Parted
 pub mod Whole
 pub mod Shown
 pub mod Example
+pub mod Empty

@@ -9,7 +9,7 @@ fn main(rt: HostRuntime) -> io::Result<()> {
     // The library has no heap: it writes the line at the front of a buffer that it is lent, and says how long it is.
     let mut out = [0u8; 256];
     if let Some(len) = cases::report_cases(list.as_slice(), &mut out) {
-        console::write_text(&rt, &out, len);
+        let _ = console::write_text(&rt, &out, len);
     }
     Ok(())
 }

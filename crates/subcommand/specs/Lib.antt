@@ -1,0 +1,4 @@
+pub mod Arguments
+pub mod Message
+pub mod Printed
+pub mod Ways
