@@ -31,11 +31,18 @@ pub fn parse_number(text: &[u8]) -> Option<usize>
     Some(n)
 }
 
+// The decimal digits of a number. They stand in the buffer that is lent.
+pub fn decimal(n: u64, digits: &mut Buffer) -> &[u8]
+    ensures { result.now ≡ decimal_text n }
+{
+    digits.format(n).as_bytes()
+}
+
 // The decimal digits of a number, as `buffer::put` puts a text.
 pub fn put_decimal(out: &mut [u8], at: usize, n: u64) -> usize
     ensures place { result ≡ place_after out.old at (decimal_text n) }
     ensures buffer { out.new ≡ written out.old at (decimal_text n) }
 {
     let mut digits = Buffer::new();
-    buffer::put(out, at, digits.format(n).as_bytes())
+    buffer::put(out, at, decimal(n, &mut digits))
 }

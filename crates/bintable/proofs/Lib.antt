@@ -7,3 +7,4 @@ pub mod Entered
 pub mod Kept
 pub mod OwnNames
 pub mod BadForm
+pub mod Empty

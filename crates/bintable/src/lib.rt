@@ -7,6 +7,7 @@ mod record;
 
 ghost use Rattle.std.specs.Prelude.{◌≡◌, [], ◌<◌, length, get_or};
 ghost use Rattle.keyword.specs.Names.{slot_names, text_of};
+ghost use Rattle.header.specs.Records.{header_of, data_of};
 ghost use Rattle.header.specs.Checks.{index_by, record_of};
 ghost use Rattle.bintable.specs.Checks.{size_in, value_at};
 ghost use Rattle.bintable.specs.Entry.{entry, entry_of};
@@ -66,4 +67,12 @@ pub fn parse(header: &[u8], area: &[u8]) -> Result<BinTable, Refusal>
     };
     indexed.check_nine()?;
     indexed.parse_table(area)
+}
+
+// The same of a file, parted where its header ends.
+pub fn parse_file(file: &[u8]) -> Result<BinTable, Refusal>
+    ensures { entry_of result ≡ entry (header_of file.now) (data_of file.now) }
+{
+    let (header, area) = header::split_file(file);
+    parse(header, area)
 }

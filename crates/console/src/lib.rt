@@ -20,18 +20,20 @@ pub fn file_buffer() -> [u8; FILE_LIMIT]
     [0; FILE_LIMIT]
 }
 
-// Reads until the buffer is full or the file ends. How many bytes were read: the library's calls that read to the end
-// fill a Vec, and `read_exact` does not say how far it came.
+// Reads until the buffer is full, when a read gives no byte, or the file ends. A read that a signal broke off is done
+// again. How many bytes were read: the library's calls that read to the end fill a Vec, and `read_exact` does not say
+// how far it came.
 fn fill(file: &mut File, buffer: &mut [u8]) -> io::Result<usize>
     ensures { IfOk result (λ n. n ≤ length buffer.new) }
 {
     let mut n: usize = 0;
-    while n < buffer.len() {
-        let read = file.read(&mut buffer[n..])?;
-        if read == 0 {
-            return Ok(n);
+    for _ in 0..u64::MAX {
+        match file.read(&mut buffer[n..]) {
+            Ok(0) => break,
+            Ok(read) => n += read,
+            Err(error) if error.kind() == io::ErrorKind::Interrupted => {}
+            Err(error) => return Err(error),
         }
-        n += read;
     }
     Ok(n)
 }

@@ -43,6 +43,14 @@ impl Keyword {
     {
         self as usize
     }
+
+    // The text of the name.
+    #[tactic(auto, unfolding(ascii::specs::Text::bytes))]
+    pub fn text(self) -> &'static [u8]
+        ensures { result.now ≡ text_of self }
+    {
+        SINGLE_NAMES[self as usize]
+    }
 }
 
 // How many these are.

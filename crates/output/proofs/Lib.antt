@@ -7,4 +7,3 @@ pub mod Parted
 pub mod Whole
 pub mod Shown
 pub mod Example
-pub mod Empty

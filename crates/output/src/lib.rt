@@ -8,7 +8,7 @@ mod settings;
 
 ghost use Rattle.std.specs.Prelude.{◌≡◌, ◌≤◌, ◌+◌, [], length, take};
 ghost use Rattle.layout.specs.Layout.{empty_layout};
-ghost use Rattle.bintable.specs.Entry.{entry, entry_of, layout_in};
+ghost use Rattle.bintable.specs.Entry.{entry, layout_in};
 ghost use Rattle.ascii.specs.Buffer.{put_in};
 ghost use Rattle.header.specs.Records.{header_of, data_of};
 ghost use Rattle.output.specs.Cells.{file_limit, cells_lines};
@@ -158,14 +158,6 @@ pub fn first_bytes(file: &[u8]) -> &[u8]
     &file[..file.len().min(FILE_LIMIT)]
 }
 
-// The entry of a file.
-pub fn parse_file(file: &[u8]) -> Result<BinTable, Refusal>
-    ensures { entry_of result ≡ entry (header_of file.now) (data_of file.now) }
-{
-    let (header, area) = header::split_file(file);
-    bintable::parse(header, area)
-}
-
 // The start of a file that is refused: the layout is the empty one.
 fn refused(refusal: Refusal) -> Start
     ensures layout { result.layout ≡ empty_layout }
@@ -182,7 +174,7 @@ pub fn cells_start(file: &[u8]) -> Start
     ensures layout { result.layout ≡ layout_in (entry (header_of file.now) (data_of file.now)) }
     ensures lines { file_left file.now result.layout [] result.state ≡ cells_lines file.now }
 {
-    match parse_file(file) {
+    match bintable::parse_file(file) {
         Ok(layout) => Start {
             layout,
             state: State::Table,
@@ -198,7 +190,7 @@ pub fn replay_start(file: &[u8], steps: &[u8]) -> Start
     ensures lines { file_left file.now result.layout (take file_limit steps.now) result.state
         ≡ replay_lines file.now (take file_limit steps.now) }
 {
-    match parse_file(file) {
+    match bintable::parse_file(file) {
         Ok(layout) => {
             let (_, area) = header::split_file(file);
             let state = settings::first_step(layout, area, first_bytes(steps));

@@ -1,6 +1,6 @@
 -- The refusals (FORMAT.md, section 10): what a check comes to, and the number and the place of each cause.
 -- Assumes nothing.
-use Rattle.std.specs.Prelude.{ℕ, ◌-◌, List, [], ◌∷◌, ◌++◌, get_or, replicate, Result, Err, Ok}
+use Rattle.std.specs.Prelude.{ℕ, cond, eqb, Result, Err, Ok}
 use Rattle.refusal.specs.declared.Refusal.{Refusal}
 use Rattle.refusal.specs.declared.Refusal.TheVariants as R
 
@@ -53,13 +53,21 @@ abbrev pub outcome_of : {A : Type 0} → Result A Refusal → Outcome
 outcome_of (Ok x) = accepted
 outcome_of (Err r) = refused (number_of r) (place_of r)
 
--- the causes by their numbers, with a place; 15 to 21 are the number of none, and have the first one here
-abbrev causes : ℕ → List Refusal
-causes p =
-    (R.BadLength ∷ R.MissingEnd ∷ R.RepeatedName p ∷ R.MissingName p ∷ R.UnreadableValue p ∷ R.InvalidValue p ∷ R.AboveLimit p ∷ R.BadForm p
-    ∷ R.RowSizeMismatch ∷ R.Mismatch ∷ R.NoColumn ∷ R.NoSuchRow p ∷ R.ArrayOutsideHeap p ∷ R.ShortList p ∷ [])
-    ++ (replicate 7 R.BadLength ++ (R.BufferMismatch ∷ []))
-
--- the cause that a number and a place tell
+-- the cause that a number and a place tell; 1 and every number of no refusal tell the first one
 abbrev pub cause_of : ℕ → ℕ → Refusal
-cause_of n p = get_or (causes p) (n - 1) R.BadLength
+cause_of n p =
+    cond (eqb n 2) R.MissingEnd
+    (cond (eqb n 3) (R.RepeatedName p)
+    (cond (eqb n 4) (R.MissingName p)
+    (cond (eqb n 5) (R.UnreadableValue p)
+    (cond (eqb n 6) (R.InvalidValue p)
+    (cond (eqb n 7) (R.AboveLimit p)
+    (cond (eqb n 8) (R.BadForm p)
+    (cond (eqb n 9) R.RowSizeMismatch
+    (cond (eqb n 10) R.Mismatch
+    (cond (eqb n 11) R.NoColumn
+    (cond (eqb n 12) (R.NoSuchRow p)
+    (cond (eqb n 13) (R.ArrayOutsideHeap p)
+    (cond (eqb n 14) (R.ShortList p)
+    (cond (eqb n 22) R.BufferMismatch
+    R.BadLength)))))))))))))

@@ -7,8 +7,8 @@ ghost use Rattle.refusal.specs.Refusal.{number_of, place_of};
 
 use std::fmt;
 
-// The causes of a refusal. docs/FORMAT.md, section 10, gives each its number and place. `n` is the number in a name that
-// is numbered by column, 0 for one that is not.
+// The causes of a refusal. docs/FORMAT.md, section 10, gives each its number and place. `n` is the number in a name
+// that is numbered by column, 0 for one that is not.
 #[derive(Clone, Copy)]
 pub enum Refusal {
     BadLength,

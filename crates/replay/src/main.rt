@@ -10,7 +10,7 @@ use output::{Source, Start};
 fn read_steps<'a>(rt: &HostRuntime, file: &[u8], buffer: &'a mut [u8]) -> &'a [u8]
     ensures { length result.now ≤ length buffer.old }
 {
-    if output::parse_file(file).is_err() {
+    if bintable::parse_file(file).is_err() {
         return &[];
     }
     console::read_file(rt, b"steps.txt", buffer)

@@ -1,6 +1,6 @@
 pub mod Long
-pub mod Shown
 pub mod Turning
 pub mod Empty
 pub mod Cut
 pub mod Whole
+pub mod Pieces

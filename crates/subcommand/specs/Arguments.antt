@@ -12,7 +12,7 @@ pub data Asked : Type 0 where
   turn_back : List ℕ → Asked
   wrong : Asked
 
--- an argument has at most 4,095 bytes
+-- an argument is too long above 4,095 bytes
 abbrev pub too_long : List ℕ → Bool
 too_long a = ltb 4095 (length a)
 
@@ -33,10 +33,12 @@ by_name name args =
     cond (same name (bytes "turn")) (with_table turn (single args))
     (cond (same name (bytes "turn-back")) (with_table turn_back (single args)) wrong)
 
+-- the first argument is that name
 abbrev pub by_first : List (List ℕ) → Asked
 by_first [] = wrong
 by_first (name ∷ args) = by_name name args
 
+-- what all arguments ask for
 unfoldable pub asked : List (List ℕ) → Asked
 asked args = cond (list_any too_long args) wrong (by_first args)
 

@@ -10,7 +10,7 @@ use Rattle.listing.specs.Lines.{refused_line}
 use Rattle.turn.specs.Turn as T
 use Rattle.subcommand.specs.declared.answers.Answer.{Answer}
 use Rattle.subcommand.specs.Arguments.{Asked, turn, turn_back, wrong, asked}
-use Rattle.subcommand.specs.Message as M
+use Rattle.subcommand.specs.Message.{usage_text, too_long_text, unreadable_text, refused_text, message_text}
 
 -- standard output, standard error and the status
 pub record Printed : Type 0 where
@@ -24,7 +24,7 @@ table_limit = 2097152
 
 -- a refusal: its line alone, and its words on standard error
 abbrev pub refused_table : List ℕ → ℕ → ℕ → Printed
-refused_table file n p = record { out = refused_line n p; err = M.refused (cause_of n p) file; status = 1 }
+refused_table file n p = record { out = refused_line n p; err = refused_text (cause_of n p) file; status = 1 }
 
 -- what is made of a table in a file, by what the entry says of it
 abbrev pub by_entry : (BinTable → List ℕ → List ℕ) → List ℕ → Entry → Printed
@@ -37,10 +37,10 @@ of_file made file = by_entry made file (entry (header_of file) (data_of file))
 -- by the file as it was read; one that cannot be read counts as empty
 abbrev pub of_table : (BinTable → List ℕ → List ℕ) → List ℕ → Option (List ℕ) → Printed
 of_table made name (Some file) =
-    cond (ltb table_limit (length file)) (record { out = []; err = M.too_long name; status = 1 }) (of_file made file)
+    cond (ltb table_limit (length file)) (record { out = []; err = too_long_text name; status = 1 }) (of_file made file)
 of_table made name None =
     let empty = of_file made [] in
-    record { out = empty.out; err = M.unreadable name ++ empty.err; status = empty.status }
+    record { out = empty.out; err = unreadable_text name ++ empty.err; status = empty.status }
 
 -- the header as it is, then the data turned, or turned back
 abbrev pub turned_file : BinTable → List ℕ → List ℕ
@@ -53,7 +53,7 @@ turned_back_file l file = header_of file ++ T.turned_back l.naxis2 l.naxis1 (dat
 abbrev pub printed : Asked → (List ℕ → Option (List ℕ)) → Printed
 printed (turn name) files = of_table turned_file name (files name)
 printed (turn_back name) files = of_table turned_back_file name (files name)
-printed wrong files = record { out = []; err = M.usage; status = 2 }
+printed wrong files = record { out = []; err = usage_text; status = 2 }
 
 -- a whole run
 abbrev pub run : List (List ℕ) → (List ℕ → Option (List ℕ)) → Printed
@@ -61,4 +61,4 @@ run args files = printed (asked args) files
 
 -- what the code's answer says, with what its buffer holds
 abbrev pub printed_by : Answer → List ℕ → Printed
-printed_by a out = record { out = take a.len out; err = M.message_text a.message; status = M.status_of a.message }
+printed_by a out = record { out = take a.len out; err = message_text a.message; status = a.status }

@@ -1,89 +1,120 @@
-// What the program says on standard error, and its status.
-ghost use Rattle.std.specs.Prelude.{Some, ◌≡◌};
-ghost use Rattle.subcommand.specs.Message.{message_text, refused, shown, status_of, too_long};
+// What the program says on standard error.
+ghost use Rattle.std.specs.Prelude.{◌≡◌, [], ◌++◌, map};
+ghost use Rattle.std.specs.List.{concat};
+ghost use Rattle.subcommand.specs.Message.{message_text, usage_text, too_long_text, refused_text, unreadable_text};
 
-use std::fmt;
-use words::Words;
+use itoa::Buffer;
+use refusal::Refusal;
 
-// What a run says. Of a file that cannot be read it says that first, and then why an empty one is refused.
+// A message, as the pieces that make it one after the other: what is said of the arguments or of a file, then of a
+// refusal its number and place, its words, and the end of that line.
 #[derive(Clone, Copy)]
-pub enum Message<'a> {
-    Nothing,
-    Usage,
-    TooLong { name: &'a [u8] },
-    Refused { words: Words<'a> },
-    Unreadable { name: &'a [u8], words: Words<'a> },
+pub struct Message<'a> {
+    pub note: [&'a [u8]; 3],
+    pub refusal: [&'a [u8]; 5],
+    pub words: [&'a [u8]; words::PIECES],
+    pub end: &'a [u8],
 }
 
-const USAGE: &str = "\
+// The digits of a refusal's number and place.
+#[derive(Drop)]
+pub struct Digits {
+    number: Buffer,
+    place: Buffer,
+}
+
+impl Digits {
+    pub fn new() -> Digits {
+        Digits {
+            number: Buffer::new(),
+            place: Buffer::new(),
+        }
+    }
+}
+
+const USAGE: &[u8] = b"\
 usage: coentrift turn TABLE
        coentrift turn-back TABLE
 
-turn writes the header of TABLE as it is, then its data turned: byte p of row r at
-p x NAXIS2 + r, and as they are the bytes after the last row. turn-back writes what
-turn was given.
+Both write to standard output the header of TABLE as it is, then its data. turn puts
+byte p of row r, both counted from 0, at p x NAXIS2 + r, and leaves the bytes after
+the last row as they are; turn-back takes such a file and puts each byte back.
 TABLE is the file of a binary table extension alone, its header and then its data,
-of 2,097,152 bytes at most. docs/FORMAT.md, sections 18 and 19, says more.
+of 2,097,152 bytes at most. An argument has at most 4,095 bytes, and case counts.
+docs/FORMAT.md, sections 18 and 19, says more.
 
 Status: 0 all was written; 1 the table was refused or is too long, and standard
-error says why; 2 the arguments are wrong, or the program could not be run.
+error says why; 2 the arguments are wrong, or the output could not be written.
 ";
 
-impl fmt::Display for Message<'_> {
-    ghost output = { λ m. Some (message_text m) };
-
-    #[tactic(auto, unfolding(crate::specs::Message::usage))]
-    fn fmt<W: fmt::Write>(&self, f: &mut fmt::Formatter<W>) -> fmt::Result {
-        match *self {
-            Message::Nothing => Ok(()),
-            Message::Usage => f.write_str(USAGE),
-            Message::TooLong { name } => {
-                let name = FileName { name };
-                write!(f, "coentrift: {name} is longer than 2,097,152 bytes\n")
-            }
-            Message::Refused { words } => {
-                let Words { refusal, .. } = words;
-                write!(f, "coentrift: {refusal}: {words}\n")
-            }
-            Message::Unreadable { name, words } => {
-                let name = FileName { name };
-                let Words { refusal, .. } = words;
-                write!(
-                    f,
-                    "coentrift: cannot read {name}, which counts as empty\ncoentrift: {refusal}: {words}\n"
-                )
-            }
-        }
+// A message that is a note alone.
+fn noted<'a>(note: [&'a [u8]; 3]) -> Message<'a>
+    ensures { message_text result ≡ concat (map (λ p. p.now) note.entry) }
+{
+    Message {
+        note,
+        refusal: [b""; 5],
+        words: [b""; words::PIECES],
+        end: b"",
     }
 }
 
-impl Message<'_> {
-    // The status of a run that says this.
-    pub fn status(&self) -> u8
-        ensures { result ≡ status_of self.now }
-    {
-        match *self {
-            Message::Nothing => 0,
-            Message::Usage => 2,
-            Message::TooLong { .. } | Message::Refused { .. } | Message::Unreadable { .. } => 1,
-        }
+// Nothing is said.
+pub fn nothing() -> Message<'static>
+    ensures { message_text result ≡ [] }
+{
+    noted([b""; 3])
+}
+
+// How the program is used.
+#[tactic(auto, unfolding(crate::specs::Message::usage_text))]
+pub fn usage() -> Message<'static>
+    ensures { message_text result ≡ usage_text }
+{
+    noted([USAGE, b"", b""])
+}
+
+// A file is longer than the program takes.
+pub fn too_long<'a>(name: &'a [u8]) -> Message<'a>
+    ensures { message_text result ≡ too_long_text name.now }
+{
+    noted([b"coentrift: '", name, b"' is longer than 2,097,152 bytes\n"])
+}
+
+// The same before a refusal of a file's table.
+fn noted_refusal<'a>(
+    note: [&'a [u8]; 3],
+    refusal: Refusal,
+    file: &'a [u8],
+    digits: &'a mut Digits,
+) -> Message<'a>
+    ensures { message_text result ≡ concat (map (λ p. p.now) note.entry) ++ refused_text refusal file.now }
+{
+    let number = ascii::digits::decimal(refusal::number(refusal), &mut digits.number);
+    let place = ascii::digits::decimal(refusal::place(refusal), &mut digits.place);
+    Message {
+        note,
+        refusal: [b"coentrift: refused ", number, b" ", place, b": "],
+        words: words::words(refusal, file, place),
+        end: b"\n",
     }
 }
 
-// The name of a file. One that is not UTF-8 cannot be printed.
-#[derive(Clone, Copy)]
-struct FileName<'a> {
-    name: &'a [u8],
+// A refusal of a file's table.
+pub fn refused<'a>(refusal: Refusal, file: &'a [u8], digits: &'a mut Digits) -> Message<'a>
+    ensures { message_text result ≡ refused_text refusal file.now }
+{
+    noted_refusal([b""; 3], refusal, file, digits)
 }
 
-impl fmt::Display for FileName<'_> {
-    ghost output = { λ f. Some (shown f.name.now) };
-
-    #[tactic(auto, using(crate::proofs::Shown::shown_text, crate::proofs::Shown::shown_other))]
-    fn fmt<W: fmt::Write>(&self, f: &mut fmt::Formatter<W>) -> fmt::Result {
-        match std::str::from_utf8(self.name) {
-            Ok(name) => write!(f, "'{name}'"),
-            Err(_) => f.write_str("the file, whose name is not UTF-8"),
-        }
-    }
+// A file that cannot be read, and the refusal of an empty one.
+pub fn unreadable<'a>(name: &'a [u8], refusal: Refusal, digits: &'a mut Digits) -> Message<'a>
+    ensures { message_text result ≡ unreadable_text name.now ++ refused_text refusal [] }
+{
+    let note = [
+        b"coentrift: cannot read '",
+        name,
+        b"', which counts as empty\n",
+    ];
+    noted_refusal(note, refusal, b"", digits)
 }

@@ -2,11 +2,10 @@
 -- pieces.
 -- Assumes nothing.
 use Rattle.std.specs.Prelude.{ℕ, zero, suc, codes, Bool, not, ◌&&◌, ◌||◌, cond, List, [], ◌∷◌, ◌++◌, length, take}
-use Rattle.std.specs.Prelude.{eqb, ltb, leb, Option, Some, None}
+use Rattle.std.specs.Prelude.{eqb, leb, Option, Some, None}
 use Rattle.std.specs.List.{concat, find}
-use Rattle.std.specs.Fmt.{decimal}
-use Rattle.std.specs.Str.{is_utf8}
 use Rattle.ascii.specs.Text.{same}
+use Rattle.ascii.specs.Number.{decimal_text}
 use Rattle.card.specs.Record.{card_at, name_of}
 use Rattle.keyword.specs.declared.Keyword.{Keyword}
 use Rattle.keyword.specs.declared.Keyword.TheVariants as K
@@ -15,7 +14,7 @@ use Rattle.header.specs.Records.{found, header_of}
 use Rattle.header.specs.Checks.{record_of}
 use Rattle.refusal.specs.declared.Refusal.{Refusal}
 use Rattle.refusal.specs.declared.Refusal.TheVariants as R
-use Rattle.refusal.specs.Refusal.{number_of}
+use Rattle.refusal.specs.Refusal.{number_of, place_of}
 
 -- a text begins with another
 abbrev pub begins : List ℕ → List ℕ → Bool
@@ -26,22 +25,21 @@ begins start text = same (take (length start) text) start
 abbrev pub name_at : List ℕ → ℕ → List ℕ
 name_at file k = name_of (card_at file k)
 
--- a name as it is shown: `a keyword` for one that is empty or is no UTF-8
+-- a name as it is shown: `a keyword` for an empty one
 unfoldable pub shown : List ℕ → List ℕ
-shown name = cond (ltb 0 (length name) && is_utf8 name) name (codes "a keyword")
+shown name = cond (eqb (length name) 0) (codes "a keyword") name
 
--- the value in a record, of which more is said
-unfoldable pub value_text : List ℕ → ℕ → List ℕ
-value_text file k =
-    concat
-    (codes "the value of " ∷ shown (name_at file k) ∷ codes ", in record " ∷ decimal k ∷ codes ", counted from 0," ∷ [])
+-- what is wrong with the value of a name, which is in the record with this number
+unfoldable pub value_text : List ℕ → List ℕ → List ℕ → List ℕ → List ℕ
+value_text place name wrong more =
+    concat (codes "the value of " ∷ shown name ∷ codes ", in record " ∷ place ∷ wrong ∷ more ∷ [])
 
--- what the value of a name is: of XTENSION, TFORMn and TTYPEn a string, of the others an integer
+-- what the value of a name should be: of XTENSION, TFORMn and TTYPEn a string, of the others an integer
 unfoldable pub kind_text : List ℕ → List ℕ
 kind_text name =
     cond (same name (codes "XTENSION") || (begins (codes "TFORM") name || begins (codes "TTYPE") name))
-    (codes "string")
-    (codes "integer")
+    (codes "string that can be read")
+    (codes "integer that can be read")
 
 -- the values of a name that are allowed
 unfoldable pub wanted_text : List ℕ → List ℕ
@@ -93,36 +91,34 @@ length_text file =
     ∷ []))
 
 -- 3
-abbrev pub repeated_text : List ℕ → ℕ → List ℕ
-repeated_text file k =
-    concat
-    (shown (name_at file k) ∷ codes " stands a second time, in record " ∷ decimal k ∷ codes ", counted from 0" ∷ [])
+abbrev pub repeated_text : List ℕ → List ℕ → List ℕ
+repeated_text place name =
+    concat (shown name ∷ codes " stands a second time, in record " ∷ place ∷ codes ", counted from 0" ∷ [])
 
 -- 4, of TFORMn and, where n is 0, of a required name
-abbrev pub missing_text : List ℕ → ℕ → List ℕ
-missing_text file zero = concat (required_text (first_missing (header_of file)) ∷ codes " is missing" ∷ [])
-missing_text file (suc n) = concat (codes "TFORM" ∷ decimal (suc n) ∷ codes " is missing" ∷ [])
+abbrev pub missing_text : List ℕ → List ℕ → ℕ → List ℕ
+missing_text place file zero = concat (required_text (first_missing (header_of file)) ∷ codes " is missing" ∷ [])
+missing_text place file (suc n) = concat (codes "TFORM" ∷ place ∷ codes " is missing" ∷ [])
 
 -- 5
-abbrev pub unreadable_text : List ℕ → ℕ → List ℕ
-unreadable_text file k =
-    concat (value_text file k ∷ codes " is no " ∷ kind_text (name_at file k) ∷ codes " that can be read" ∷ [])
+abbrev pub unreadable_text : List ℕ → List ℕ → List ℕ
+unreadable_text place name = value_text place name (codes ", counted from 0, is no ") (kind_text name)
 
 -- 6
-abbrev pub invalid_text : List ℕ → ℕ → List ℕ
-invalid_text file k = concat (value_text file k ∷ codes " is not allowed: " ∷ wanted_text (name_at file k) ∷ [])
+abbrev pub invalid_text : List ℕ → List ℕ → List ℕ
+invalid_text place name = value_text place name (codes ", counted from 0, is not allowed: ") (wanted_text name)
 
 -- 7
-abbrev pub above_limit_text : List ℕ → ℕ → List ℕ
-above_limit_text file k =
-    concat (value_text file k ∷ codes " is above the limit of this reader" ∷ limit_text (name_at file k) ∷ [])
+abbrev pub above_limit_text : List ℕ → List ℕ → List ℕ
+above_limit_text place name =
+    value_text place name (codes ", counted from 0, is above the limit of this reader") (limit_text name)
 
 -- 8
-abbrev pub form_text : ℕ → List ℕ
-form_text n =
+abbrev pub form_text : List ℕ → List ℕ
+form_text place =
     concat
     (codes "TFORM"
-    ∷ decimal n
+    ∷ place
     ∷ codes " is no form that can be read: a form is a count of 8,388,608 at most, or none, and a letter of "
     ∷ codes "L X B A I J E K D C M; or a count of 0 or 1, or none, then P or Q and then one of these letters"
     ∷ [])
@@ -136,37 +132,37 @@ no_column_text =
     ∷ [])
 
 -- 12
-abbrev pub row_text : ℕ → List ℕ
-row_text r = concat (codes "row " ∷ decimal r ∷ codes ", counted from 0, is no row of the table" ∷ [])
+abbrev pub row_text : List ℕ → List ℕ
+row_text place = concat (codes "row " ∷ place ∷ codes ", counted from 0, is no row of the table" ∷ [])
 
 -- 13
-abbrev pub array_text : ℕ → List ℕ
-array_text c =
-    concat (codes "an array of column " ∷ decimal c ∷ codes ", counted from 0, ends past the heap" ∷ [])
+abbrev pub array_text : List ℕ → List ℕ
+array_text place =
+    concat (codes "an array of column " ∷ place ∷ codes ", counted from 0, ends past the heap" ∷ [])
 
 -- 14
-abbrev pub list_text : ℕ → List ℕ
-list_text n = concat (codes "the list is shorter than what is left of the row, " ∷ decimal n ∷ codes " cells" ∷ [])
+abbrev pub list_text : List ℕ → List ℕ
+list_text place = concat (codes "the list is shorter than what is left of the row, " ∷ place ∷ codes " cells" ∷ [])
 
--- what refused the table
-abbrev pub cause_text : Refusal → List ℕ → List ℕ
-cause_text R.BadLength file = length_text file
-cause_text R.MissingEnd file = codes "no record is END, so the header has no end"
-cause_text (R.RepeatedName k) file = repeated_text file k
-cause_text (R.MissingName n) file = missing_text file n
-cause_text (R.UnreadableValue k) file = unreadable_text file k
-cause_text (R.InvalidValue k) file = invalid_text file k
-cause_text (R.AboveLimit k) file = above_limit_text file k
-cause_text (R.BadForm n) file = form_text n
-cause_text R.RowSizeMismatch file =
+-- what refused the table, with its place as text
+abbrev pub cause_text : List ℕ → Refusal → List ℕ → List ℕ
+cause_text place R.BadLength file = length_text file
+cause_text place R.MissingEnd file = codes "no record is END, so the header has no end"
+cause_text place (R.RepeatedName k) file = repeated_text place (name_at file k)
+cause_text place (R.MissingName n) file = missing_text place file n
+cause_text place (R.UnreadableValue k) file = unreadable_text place (name_at file k)
+cause_text place (R.InvalidValue k) file = invalid_text place (name_at file k)
+cause_text place (R.AboveLimit k) file = above_limit_text place (name_at file k)
+cause_text place (R.BadForm n) file = form_text place
+cause_text place R.RowSizeMismatch file =
     codes "the bytes of the columns do not add up to NAXIS1; a field of P or Q with count 0 takes none"
-cause_text R.Mismatch file =
+cause_text place R.Mismatch file =
     codes "the file is shorter than its header says: the data need NAXIS1 x NAXIS2 + PCOUNT bytes"
-cause_text R.NoColumn file = no_column_text
-cause_text (R.NoSuchRow r) file = row_text r
-cause_text (R.ArrayOutsideHeap c) file = array_text c
-cause_text (R.ShortList n) file = list_text n
-cause_text R.BufferMismatch file = codes "the two buffers differ in length, or are shorter than the table"
+cause_text place R.NoColumn file = no_column_text
+cause_text place (R.NoSuchRow r) file = row_text place
+cause_text place (R.ArrayOutsideHeap c) file = array_text place
+cause_text place (R.ShortList n) file = list_text place
+cause_text place R.BufferMismatch file = codes "the two buffers differ in length, or are shorter than the table"
 
 -- what follows 1 to 4 of a file that begins as a whole FITS file does
 unfoldable pub hint_text : Refusal → List ℕ → List ℕ
@@ -178,5 +174,10 @@ hint_text r file =
     ∷ []))
     []
 
+-- the words of a refusal, with a text of its place
+unfoldable pub words_with : List ℕ → Refusal → List ℕ → List ℕ
+words_with place r file = cause_text place r file ++ hint_text r file
+
+-- and with its place in decimal
 abbrev pub words_text : Refusal → List ℕ → List ℕ
-words_text r file = cause_text r file ++ hint_text r file
+words_text r file = words_with (decimal_text (place_of r)) r file

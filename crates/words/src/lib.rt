@@ -5,18 +5,16 @@ mod cause;
 mod names;
 mod required;
 
-ghost use Rattle.std.specs.Prelude.{◌≡◌, Some};
-ghost use Rattle.words.specs.Words.{hint_text, words_text};
+ghost use Rattle.std.specs.Prelude.{◌≡◌, map};
+ghost use Rattle.std.specs.List.{concat};
+ghost use Rattle.words.specs.Words.{hint_text, words_with};
 
 use refusal::Refusal;
-use std::fmt;
 
-// A refusal beside the file that it is of.
-#[derive(Clone, Copy)]
-pub struct Words<'a> {
-    pub refusal: Refusal,
-    pub file: &'a [u8],
-}
+// The most pieces of a refusal's words: those of its cause, and one that is said after it.
+pub const PIECES: usize = CAUSE_PIECES + 1;
+
+const CAUSE_PIECES: usize = 6;
 
 // A whole FITS file begins with the record SIMPLE.
 const WHOLE_FILE: &[u8] = b"SIMPLE  = ";
@@ -26,21 +24,21 @@ const LAST_OF_WHOLE: u64 = 4;
 
 // What is said after the cause.
 #[tactic(auto, unfolding(crate::specs::Words::hint_text))]
-fn hint(refusal: Refusal, file: &[u8]) -> &'static str
+fn hint(refusal: Refusal, file: &[u8]) -> &[u8]
     ensures { result.now ≡ hint_text refusal file.now }
 {
     if refusal::number(refusal) <= LAST_OF_WHOLE && ascii::begins_with(file, WHOLE_FILE) {
-        return "; this looks like a whole FITS file, whose table is an extension: \
+        return b"; this looks like a whole FITS file, whose table is an extension: \
             cut off what stands before it (README says how)";
     }
-    ""
+    b""
 }
 
-impl fmt::Display for Words<'_> {
-    ghost output = { λ w. Some (words_text w.refusal w.file.now) };
-
-    fn fmt<W: fmt::Write>(&self, f: &mut fmt::Formatter<W>) -> fmt::Result {
-        cause::write_cause(f, self.refusal, self.file)?;
-        f.write_str(hint(self.refusal, self.file))
-    }
+// A refusal of a table's file in words, as the pieces that make them one after the other. `place` is the refusal's
+// place as text.
+pub fn words<'a>(refusal: Refusal, file: &'a [u8], place: &'a [u8]) -> [&'a [u8]; PIECES]
+    ensures { concat (map (λ p. p.now) result) ≡ words_with place.now refusal file.now }
+{
+    let [a, b, c, d, e, f] = cause::cause(refusal, file, place);
+    [a, b, c, d, e, f, hint(refusal, file)]
 }

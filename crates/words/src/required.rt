@@ -1,6 +1,5 @@
 // The first required name that a header does not have.
 ghost use Rattle.std.specs.Prelude.{◌≡◌, ℕ, List};
-ghost use Rattle.keyword.specs.Names.{text_of};
 ghost use Rattle.header.specs.Checks.{index_by};
 ghost use Rattle.header.specs.Records.{header_of};
 ghost use Rattle.words.specs.Words.{missing, first_missing, required_text};
@@ -19,24 +18,6 @@ const REQUIRED: [Keyword; 8] = [
     Keyword::Gcount,
     Keyword::Tfields,
 ];
-
-// The text of a name.
-#[tactic(auto, unfolding(ascii::specs::Text::bytes))]
-fn text_of(keyword: Keyword) -> &'static str
-    ensures { result.now ≡ text_of keyword }
-{
-    match keyword {
-        Keyword::Xtension => "XTENSION",
-        Keyword::Bitpix => "BITPIX",
-        Keyword::Naxis => "NAXIS",
-        Keyword::Naxis1 => "NAXIS1",
-        Keyword::Naxis2 => "NAXIS2",
-        Keyword::Pcount => "PCOUNT",
-        Keyword::Gcount => "GCOUNT",
-        Keyword::Tfields => "TFIELDS",
-        Keyword::Theap => "THEAP",
-    }
-}
 
 // Whether a header, by its index, has no record of a name.
 #[tactic(auto, using(header::proofs::Lookup::slot_first))]
@@ -57,12 +38,12 @@ fn first_missing(header: &[u8]) -> Option<Keyword>
         .copied()
 }
 
-// That of a file, as text.
-pub fn missing(file: &[u8]) -> &'static str
+// The first required name that a file does not have, as text.
+pub fn missing(file: &[u8]) -> &[u8]
     ensures { result.now ≡ required_text (first_missing (header_of file.now)) }
 {
     match first_missing(header::split_file(file).0) {
-        Some(keyword) => text_of(keyword),
-        None => "a required keyword",
+        Some(keyword) => keyword.text(),
+        None => b"a required keyword",
     }
 }

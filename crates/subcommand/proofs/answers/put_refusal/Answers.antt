@@ -19,6 +19,9 @@ put c =
     fitted o 0 t (omega (arith, line_short [] empty_layout (L.Refused c.args.refusal)))
     (c.unwrap_or.ensures ∙ ap (λ w. unwrap_or w 0) c.put_line.ensures.to ∙ place_of o 0 t, c.put_line.ensures.buffer)
 
+pub returns-clause-len : goal.returns-clause-len
+returns-clause-len c = omega (arith, (put c).0)
+
 pub returns-clause-text : goal.returns-clause-text
 returns-clause-text c =
     front c.args.out.now _ (omega (arith, (put c).0, line_short [] empty_layout (L.Refused c.args.refusal))) (put c)

@@ -51,6 +51,9 @@ all c =
     (joined c.args.out.now 0 (header_of f) t (omega (arith, c.requires.room)) (first p)
     (omega (arith, (first p).0, long), part ∙ ap (put_in o c.put-start.result) is))
 
+pub returns-clause-len : goal.returns-clause-len
+returns-clause-len c = omega (arith, (all c).0)
+
 pub returns-clause-text : goal.returns-clause-text
 returns-clause-text c = front c.args.out.now _ (omega (arith, c.requires.room)) (all c)
 
