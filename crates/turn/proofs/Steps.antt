@@ -1,8 +1,9 @@
 -- One turn of the loops over a block: a row that is copied to the tile, and the bytes of a place that are written.
 -- Assumes nothing.
-use Rattle.std.proofs.Common.{ℕ, ◌≡◌, ◌+◌, ◌-◌, ◌*◌, ◌<◌, ◌≤◌, List, length, get_or}
+use Rattle.std.proofs.Common.{ℕ, suc, ◌≡◌, ◌+◌, ◌-◌, ◌*◌, ◌<◌, ◌≤◌, List, [], ◌∷◌, length, get_or, set}
 use Rattle.std.proofs.Common.{refl, ◌∙◌, ⊎_elim, arith}
 use Rattle.std.proofs.lemmas.Bool.{cases_lt}
+use Rattle.std.proofs.lemmas.List.{set_split, drop-drop}
 use Rattle.std.proofs.lemmas.Nat.{same_from_place}
 use Rattle.std.proofs.Math.Nat.{mul-le-mul_right}
 use borrow.Rule.Slice.PartMut.{put_mid}
@@ -74,3 +75,23 @@ module _ (t : Table) (old ys : List ℕ) (row n m place : ℕ) (size : m ≡ n)
       → Kept t start old → Placed t row (row + n) first place old
       → Kept t start (put_mid at m old ys) × Placed t row (row + n) first end (put_mid at m old ys)
   stored start first end e kept placed = (stored_kept start kept, stored_placed first end e placed)
+
+-- the byte of a row at a place goes where it goes
+module _ (t : Table) (old : List ℕ) (row place : ℕ) (inside_row : row < t.rows) (inside : place < t.width)
+    (room : t.rows * t.width ≤ length old) (start : List ℕ) (first : ℕ) where
+  abbrev spread : List ℕ
+  spread = set old (place * t.rows + row) (byte_at t row place)
+
+  pub spread_stored : Kept t start old → Placed t row (row + 1) first place old
+      → Kept t start spread × Placed t row (row + 1) first (place + 1) spread
+  spread_stored kept placed =
+      let b : ℕ = byte_at t row place in
+      let at : ℕ = place * t.rows + row in
+      let bytes : (k : ℕ) → k < 1 → get_or (b ∷ []) k 0 ≡ byte_at t (row + k) place =
+      λ k h. let e : k ≡ 0 = omega arith in
+      let f : row + 0 ≡ row = omega arith in
+      rw (e, f) refl in
+      let fits : at < length old = omega (arith, part_fits place t.width t.rows row 1 inside (omega arith)) in
+      let n : suc at ≡ at + 1 = omega arith in
+      rw (set_split old at b fits, n, ← drop-drop 1 at old) (stored t old (b ∷ []) row 1 1 place refl (omega arith) inside room refl bytes
+      start first (place + 1) refl kept placed)

@@ -13,6 +13,11 @@ const TILE_SIZE: usize = BLOCK_ROWS * BLOCK_PLACES;
 // Rows up to this width lie close enough together to be read where they are.
 const NARROW_WIDTH: usize = 16;
 
+// A table of up to so many rows is turned row by row, at so many places at a time.
+const FEW_ROWS: usize = 8;
+
+const FEW_PLACES: usize = 1024;
+
 // The rows that are turned, and the bytes that begin with them.
 #[derive(Clone, Copy)]
 struct Table<'a> {
@@ -109,6 +114,68 @@ fn turn_band(table: Table, first_row: usize, rows: usize, tile: &mut [u8], to: &
     }
 }
 
+// Writes a row's bytes at the places from `first` up to `end` where they go.
+fn spread_row(table: Table, row: usize, first: usize, end: usize, to: &mut [u8])
+    requires inside { table.rows * table.width ≤ length table.bytes.now }
+    requires row { row < table.rows }
+    requires places { end ≤ table.width }
+    requires room { table.rows * table.width ≤ length to.old }
+    ensures kept { Kept table.entry to.old to.new }
+    ensures placed { Placed table.entry row (row + 1) first end to.new }
+{
+    for p in first..end {
+        to[p * table.rows + row] = table.bytes[row * table.width + p];
+    }
+}
+
+// Writes each row's bytes at the places from `first` up to `end` where they go.
+fn spread_rows(table: Table, first: usize, end: usize, to: &mut [u8])
+    requires inside { table.rows * table.width ≤ length table.bytes.now }
+    requires places { end ≤ table.width }
+    requires room { table.rows * table.width ≤ length to.old }
+    ensures kept { Kept table.entry to.old to.new }
+    ensures placed { Placed table.entry 0 table.entry.rows first end to.new }
+{
+    for row in 0..table.rows {
+        spread_row(table, row, first, end, to);
+    }
+}
+
+// Turns a table of few rows, row by row at some places at a time: at each place the bytes of all rows are too few for
+// a loop of their own.
+fn turn_few(table: Table, to: &mut [u8])
+    requires inside { table.rows * table.width ≤ length table.bytes.now }
+    requires room { table.rows * table.width ≤ length to.old }
+    ensures { Placed table.entry 0 table.entry.rows 0 table.entry.width to.new }
+{
+    let mut first_place = 0;
+    while first_place < table.width {
+        let end = first_place + FEW_PLACES.min(table.width - first_place);
+        spread_rows(table, first_place, end, to);
+        first_place = end;
+    }
+}
+
+// Turns all rows, in bands or, where they are few, one by one.
+fn turn_rows(table: Table, to: &mut [u8])
+    requires inside { table.rows * table.width ≤ length table.bytes.now }
+    requires room { table.rows * table.width ≤ length to.old }
+    ensures { Placed table.entry 0 table.entry.rows 0 table.entry.width to.new }
+{
+    let rows = table.rows;
+    if rows <= FEW_ROWS {
+        turn_few(table, to);
+        return;
+    }
+    let mut tile = [0; TILE_SIZE];
+    let mut first_row = 0;
+    while first_row < rows {
+        let band = BLOCK_ROWS.min(rows - first_row);
+        turn_band(table, first_row, band, &mut tile, to);
+        first_row += band;
+    }
+}
+
 // Byte p of row r goes to p * rows + r; what follows the rows is copied.
 pub fn copy_turned(rows: usize, width: usize, from: &[u8], to: &mut [u8])
     requires inside { rows * width ≤ length from.now }
@@ -120,13 +187,7 @@ pub fn copy_turned(rows: usize, width: usize, from: &[u8], to: &mut [u8])
         width,
         bytes: from,
     };
-    let mut tile = [0; TILE_SIZE];
-    let mut first_row = 0;
-    while first_row < rows {
-        let band = BLOCK_ROWS.min(rows - first_row);
-        turn_band(table, first_row, band, &mut tile, to);
-        first_row += band;
-    }
+    turn_rows(table, to);
     let main = rows * width;
     to[main..].copy_from_slice(&from[main..]);
 }

@@ -38,7 +38,7 @@ returns c =
     let rows = c.args.rows in
     let width = c.args.width in
     let from = c.args.from.now in
-    let to = c.loop-first_row.to in
+    let to = c.turn_rows.new.to in
     let main : ℕ = rows * width in
     let inside = c.requires.inside in
     let same : length to ≡ length from = omega arith in
@@ -46,5 +46,5 @@ returns c =
     ∙ turned_is rows width from inside (copied from to main inside same) (length_copied from to main inside same)
     (λ r p hr hp.
     front_copied from to main inside same (p * rows + r) (omega (arith, mul-add-lt p rows r width hp hr))
-    ∙ c.loop-first_row.invariant r p (omega arith) (omega arith) (omega arith) hp)
+    ∙ c.turn_rows.ensures r p (omega arith) hr (omega arith) hp)
     (drop_copied from to main inside same)
