@@ -1,4 +1,5 @@
--- One turn of the loops over a block: a row that is copied to the tile, and the bytes of a place that are written.
+-- One turn of the loops over a block: a row that is copied to the tile, the bytes of a place that are written, and one
+-- byte of a row that is scattered.
 -- Assumes nothing.
 use Rattle.std.proofs.Common.{ℕ, suc, ◌≡◌, ◌+◌, ◌-◌, ◌*◌, ◌<◌, ◌≤◌, List, [], ◌∷◌, length, get_or, set}
 use Rattle.std.proofs.Common.{refl, ◌∙◌, ⊎_elim, arith}
@@ -79,12 +80,12 @@ module _ (t : Table) (old ys : List ℕ) (row n m place : ℕ) (size : m ≡ n)
 -- the byte of a row at a place goes where it goes
 module _ (t : Table) (old : List ℕ) (row place : ℕ) (inside_row : row < t.rows) (inside : place < t.width)
     (room : t.rows * t.width ≤ length old) (start : List ℕ) (first : ℕ) where
-  abbrev spread : List ℕ
-  spread = set old (place * t.rows + row) (byte_at t row place)
+  abbrev scattered : List ℕ
+  scattered = set old (place * t.rows + row) (byte_at t row place)
 
-  pub spread_stored : Kept t start old → Placed t row (row + 1) first place old
-      → Kept t start spread × Placed t row (row + 1) first (place + 1) spread
-  spread_stored kept placed =
+  pub scatter_stored : Kept t start old → Placed t row (row + 1) first place old
+      → Kept t start scattered × Placed t row (row + 1) first (place + 1) scattered
+  scatter_stored kept placed =
       let b : ℕ = byte_at t row place in
       let at : ℕ = place * t.rows + row in
       let bytes : (k : ℕ) → k < 1 → get_or (b ∷ []) k 0 ≡ byte_at t (row + k) place =
@@ -93,5 +94,6 @@ module _ (t : Table) (old : List ℕ) (row place : ℕ) (inside_row : row < t.ro
       rw (e, f) refl in
       let fits : at < length old = omega (arith, part_fits place t.width t.rows row 1 inside (omega arith)) in
       let n : suc at ≡ at + 1 = omega arith in
-      rw (set_split old at b fits, n, ← drop-drop 1 at old) (stored t old (b ∷ []) row 1 1 place refl (omega arith) inside room refl bytes
-      start first (place + 1) refl kept placed)
+      let s = stored t old (b ∷ []) row 1 1 place refl (omega arith) inside room refl bytes
+      start first (place + 1) refl kept placed in
+      rw (set_split old at b fits, n, ← drop-drop 1 at old) s

@@ -13,9 +13,10 @@ const TILE_SIZE: usize = BLOCK_ROWS * BLOCK_PLACES;
 // Rows up to this width lie close enough together to be read where they are.
 const NARROW_WIDTH: usize = 16;
 
-// A table of up to so many rows is turned row by row, at so many places at a time.
+// A table of up to this many rows is turned row by row.
 const FEW_ROWS: usize = 8;
 
+// The places that are turned at a time there.
 const FEW_PLACES: usize = 1024;
 
 // The rows that are turned, and the bytes that begin with them.
@@ -47,11 +48,10 @@ fn gather(source: &[u8], stride: usize, out: &mut [u8])
 }
 
 // Copies a block to a tile, whose rows have `BLOCK_PLACES` bytes, however far apart those of the table are.
-fn load_block(table: Table, block: Block, tile: &mut [u8])
+fn load_block(table: Table, block: Block, tile: &mut [u8; TILE_SIZE])
     requires in_table { IsBlock table block }
     requires rows { block.rows ≤ BLOCK_ROWS }
     requires places { block.places ≤ BLOCK_PLACES }
-    requires room { length tile.old ≡ TILE_SIZE }
     ensures { Holds table.entry block BLOCK_PLACES tile.new }
 {
     for r in 0..block.rows {
@@ -78,12 +78,11 @@ fn store_block(table: Table, block: Block, source: &[u8], stride: usize, to: &mu
 }
 
 // Turns some rows, block by block, or as one block where they are narrow.
-fn turn_band(table: Table, first_row: usize, rows: usize, tile: &mut [u8], to: &mut [u8])
+fn turn_band(table: Table, first_row: usize, rows: usize, tile: &mut [u8; TILE_SIZE], to: &mut [u8])
     requires inside { table.rows * table.width ≤ length table.bytes.now }
     requires some { 0 < rows }
     requires few { rows ≤ BLOCK_ROWS }
     requires in_table { first_row + rows ≤ table.rows }
-    requires tile { length tile.old ≡ TILE_SIZE }
     requires room { table.rows * table.width ≤ length to.old }
     ensures kept { Kept table.entry to.old to.new }
     ensures placed { Placed table.entry first_row (first_row + rows) 0 table.entry.width to.new }
@@ -115,7 +114,7 @@ fn turn_band(table: Table, first_row: usize, rows: usize, tile: &mut [u8], to: &
 }
 
 // Writes a row's bytes at the places from `first` up to `end` where they go.
-fn spread_row(table: Table, row: usize, first: usize, end: usize, to: &mut [u8])
+fn scatter_row(table: Table, row: usize, first: usize, end: usize, to: &mut [u8])
     requires inside { table.rows * table.width ≤ length table.bytes.now }
     requires row { row < table.rows }
     requires places { end ≤ table.width }
@@ -129,7 +128,7 @@ fn spread_row(table: Table, row: usize, first: usize, end: usize, to: &mut [u8])
 }
 
 // Writes each row's bytes at the places from `first` up to `end` where they go.
-fn spread_rows(table: Table, first: usize, end: usize, to: &mut [u8])
+fn scatter_rows(table: Table, first: usize, end: usize, to: &mut [u8])
     requires inside { table.rows * table.width ≤ length table.bytes.now }
     requires places { end ≤ table.width }
     requires room { table.rows * table.width ≤ length to.old }
@@ -137,12 +136,12 @@ fn spread_rows(table: Table, first: usize, end: usize, to: &mut [u8])
     ensures placed { Placed table.entry 0 table.entry.rows first end to.new }
 {
     for row in 0..table.rows {
-        spread_row(table, row, first, end, to);
+        scatter_row(table, row, first, end, to);
     }
 }
 
-// Turns a table of few rows, row by row at some places at a time: at each place the bytes of all rows are too few for
-// a loop of their own.
+// Turns a table of few rows. To gather them at each place would be a loop over a few bytes, so each row's bytes are
+// scattered.
 fn turn_few(table: Table, to: &mut [u8])
     requires inside { table.rows * table.width ≤ length table.bytes.now }
     requires room { table.rows * table.width ≤ length to.old }
@@ -151,12 +150,12 @@ fn turn_few(table: Table, to: &mut [u8])
     let mut first_place = 0;
     while first_place < table.width {
         let end = first_place + FEW_PLACES.min(table.width - first_place);
-        spread_rows(table, first_place, end, to);
+        scatter_rows(table, first_place, end, to);
         first_place = end;
     }
 }
 
-// Turns all rows, in bands or, where they are few, one by one.
+// Turns all rows, band by band, or row by row where they are few.
 fn turn_rows(table: Table, to: &mut [u8])
     requires inside { table.rows * table.width ≤ length table.bytes.now }
     requires room { table.rows * table.width ≤ length to.old }

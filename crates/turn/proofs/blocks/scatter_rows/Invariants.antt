@@ -1,6 +1,6 @@
--- The loop of `spread_rows`: the bytes of the rows before `row` are where they go.
+-- The loop of `scatter_rows`: the bytes of the rows before `row` are where they go.
 use Rattle.turn.specs.Blocks.{Placed, Kept}
-use Rattle.turn.proofs.blocks.spread_rows.Given as goal
+use Rattle.turn.proofs.blocks.scatter_rows.Given as goal
 
 abbrev pub invariant-loop-row : goal.invariant-loop-row
 invariant-loop-row l =

@@ -1,7 +1,7 @@
--- The loop of `spread_row`: the row's bytes at the places before p are where they go.
+-- The loop of `scatter_row`: the row's bytes at the places before p are where they go.
 use Rattle.std.proofs.Common.{◌+◌}
 use Rattle.turn.specs.Blocks.{Placed, Kept}
-use Rattle.turn.proofs.blocks.spread_row.Given as goal
+use Rattle.turn.proofs.blocks.scatter_row.Given as goal
 
 abbrev pub invariant-loop-p : goal.invariant-loop-p
 invariant-loop-p l =
