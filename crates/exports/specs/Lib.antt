@@ -1,3 +1,4 @@
 pub mod Checksum
 pub mod Reads
 pub mod Loops
+pub mod Turning

@@ -1,6 +1,6 @@
-// Checksums of the cells that reads hand out, and of a layout, for the benchmark and the oracle to call: a layout
-// and a cell hold enums, which cannot be passed to C or Rust. Each sum has the number of a refusal above its 32
-// bits, or 0.
+// Checksums of the cells that reads hand out, and of a layout, and a table's bytes turned, for the benchmark and the
+// oracle to call: a layout and a cell hold enums, which cannot be passed to C or Rust. Each sum has the number of a
+// refusal above its 32 bits, or 0.
 #![tactic(auto)]
 
 mod cells;
@@ -20,6 +20,7 @@ ghost use Rattle.output.specs.Page.{page_text};
 ghost use Rattle.exports.specs.declared.Start.{Start};
 ghost use Rattle.exports.specs.Checksum.{entry_sum};
 ghost use Rattle.exports.specs.Reads.{by_cells, by_rows, list_length, table_reads, reads_sum};
+ghost use Rattle.exports.specs.Turning.{turn_number, turn_buffer, turn_back_buffer};
 
 use layout::BinTable;
 use refusal::Refusal;
@@ -107,4 +108,29 @@ pub extern "C" fn coentrift_replay(file: &[u8], steps: &[u8], out: &mut [u8]) ->
         ≡ put_in out.old 0 (page_text (length out.old) (replay_lines file.now (take file_limit steps.now))) }
 {
     output::replay_text(file, steps, out)
+}
+
+// The entry, then `turn::turn`: the data area turned, to another buffer. The result is the number of a refusal of
+// either, or 0; the buffer is as it was where one refuses.
+#[unsafe(no_mangle)]
+pub extern "C" fn coentrift_turn(header: &[u8], from: &[u8], to: &mut [u8]) -> u64
+    ensures number { result ≡ turn_number (entry header.now from.now) from.now to.old }
+    ensures buffer { to.new ≡ turn_buffer (entry header.now from.now) from.now to.old }
+{
+    match bintable::parse(header, from) {
+        Ok(layout) => refusals::number(turn::turn(layout, from, to)),
+        Err(refusal) => refusal::number(refusal),
+    }
+}
+
+// The same with `turn::turn_back`: a turned data area as it was.
+#[unsafe(no_mangle)]
+pub extern "C" fn coentrift_turn_back(header: &[u8], from: &[u8], to: &mut [u8]) -> u64
+    ensures number { result ≡ turn_number (entry header.now from.now) from.now to.old }
+    ensures buffer { to.new ≡ turn_back_buffer (entry header.now from.now) from.now to.old }
+{
+    match bintable::parse(header, from) {
+        Ok(layout) => refusals::number(turn::turn_back(layout, from, to)),
+        Err(refusal) => refusal::number(refusal),
+    }
 }

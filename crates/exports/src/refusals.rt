@@ -1,8 +1,9 @@
-// The number of a refusal above a sum.
+// The number of a refusal, alone or above a sum.
 ghost use Rattle.std.specs.Prelude.{◌≡◌};
-ghost use Rattle.refusal.specs.Refusal.{number_of};
+ghost use Rattle.refusal.specs.Refusal.{number_of, outcome_of};
 ghost use Rattle.exports.specs.Checksum.{with_number};
 ghost use Rattle.exports.specs.Loops.{number_in};
+ghost use Rattle.exports.specs.Turning.{outcome_number};
 
 use super::checksum::WORD_LIMIT;
 use refusal::Refusal;
@@ -20,5 +21,15 @@ pub fn ended<T: Copy>(sum: u32, answer: Result<T, Refusal>) -> u64
     match answer {
         Ok(_) => sum as u64,
         Err(refusal) => refused(sum, refusal),
+    }
+}
+
+// Alone, and 0 where nothing is refused.
+pub fn number(answer: Result<(), Refusal>) -> u64
+    ensures { result ≡ outcome_number (outcome_of answer) }
+{
+    match answer {
+        Ok(()) => 0,
+        Err(refusal) => refusal::number(refusal),
     }
 }
