@@ -1,8 +1,9 @@
 //! Times fitsrs, cfitsio and this reader on the same tables and headers, in one thread, and prints ns a cell and ratios.
-//! Every run's checksum is compared with one that is made from the table's bytes alone.
+//! Every run's checksum is compared with one that is made from the table's bytes alone. Then turning beside a copy.
 
 mod readers;
 mod tables;
+mod turning;
 
 use readers::{
     cfitsio, cfitsio_open, fitsrs_header, fitsrs_next, fitsrs_rows, our_layout, ours, thread_time,
@@ -210,6 +211,7 @@ fn main() {
         "columns",
     );
     let by_columns = [1, 8, 16, 32, 64].map(|n| time_growth(n, 1_000_000 / n, n));
+    let by_shape = turning::time_turning();
 
     println!("\ngoals {:38} {:>12} {:>10}", "", "wanted", "seen");
     for (name, figures) in [("(i)", &one), ("(ii)", &two), ("(v)", &five)] {
@@ -263,5 +265,13 @@ fn main() {
         ),
     ] {
         goal(name, "below 1.5", spread(&figures), spread(&figures) < 1.5);
+    }
+    for (shape, ratio) in by_shape {
+        goal(
+            &format!("turn / copy, {shape}"),
+            "below 4",
+            ratio,
+            ratio < 4.0,
+        );
     }
 }

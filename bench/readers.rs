@@ -10,6 +10,9 @@ use std::io::Cursor;
 pub type Sum =
     unsafe extern "C" fn(*const u8, usize, *const u8, usize, *const usize, usize, bool) -> u64;
 
+/// A header, a data area and the buffer that it is written to, each by pointer and length.
+pub type Turn = unsafe extern "C" fn(*const u8, usize, *const u8, usize, *mut u8, usize) -> u64;
+
 mod library {
     #[rustfmt::skip]
     extern "C" {
@@ -17,6 +20,8 @@ mod library {
         pub fn coentrift_sum_lent(header: *const u8, header_len: usize, area: *const u8, area_len: usize, cols: *const usize, ncols: usize, heap: bool) -> u64;
         pub fn coentrift_sum_rows(header: *const u8, header_len: usize, area: *const u8, area_len: usize, cols: *const usize, ncols: usize, heap: bool) -> u64;
         pub fn coentrift_layout(header: *const u8, header_len: usize, area: *const u8, area_len: usize) -> u64;
+        pub fn coentrift_turn(header: *const u8, header_len: usize, from: *const u8, from_len: usize, to: *mut u8, to_len: usize) -> u64;
+        pub fn coentrift_turn_back(header: *const u8, header_len: usize, from: *const u8, from_len: usize, to: *mut u8, to_len: usize) -> u64;
         pub fn cfitsio_sum(bytes: *mut u8, len: usize, cols: *const usize, ncols: usize, whole_columns: i32) -> u64;
         pub fn cfitsio_open(bytes: *mut u8, len: usize) -> u64;
         pub fn thread_time() -> u64;
@@ -29,6 +34,8 @@ pub const LONGEST_ROW: usize = 512;
 pub const CELL_READ: Sum = library::coentrift_sum_cells;
 pub const LENT_CELL_READ: Sum = library::coentrift_sum_lent;
 pub const ROW_READ: Sum = library::coentrift_sum_rows;
+pub const TURN: Turn = library::coentrift_turn;
+pub const TURN_BACK: Turn = library::coentrift_turn_back;
 
 pub fn ours(sum: Sum, table: &Table, choice: &[usize]) -> u64 {
     let (header, area) = (&table.header, &table.area);
@@ -48,6 +55,20 @@ pub fn ours(sum: Sum, table: &Table, choice: &[usize]) -> u64 {
 pub fn our_layout(table: &Table) -> u64 {
     let (header, area) = (&table.header, &table.area);
     unsafe { library::coentrift_layout(header.as_ptr(), header.len(), area.as_ptr(), area.len()) }
+}
+
+/// Gives the number of a refusal, or 0.
+pub fn our_turn(turn: Turn, header: &[u8], from: &[u8], to: &mut [u8]) -> u64 {
+    unsafe {
+        turn(
+            header.as_ptr(),
+            header.len(),
+            from.as_ptr(),
+            from.len(),
+            to.as_mut_ptr(),
+            to.len(),
+        )
+    }
 }
 
 /// A sum with a cell: its place, then its value's bits.

@@ -1,8 +1,9 @@
-//! The tables that are read: their bytes, and the checksums of their cells from those bytes alone.
+//! The tables that are read or turned: their bytes, and from those alone the checksums of their cells and their bytes
+//! turned.
 
 const BLOCK: usize = 2880;
 
-/// A column of one form letter, I, J, E or D, with `count` items, or with an array of `count` J items in each row.
+/// A column of one form letter, B, I, J, E or D, with `count` items, or with an array of `count` J items in each row.
 #[derive(Clone, Copy)]
 pub struct Column {
     letter: char,
@@ -97,6 +98,7 @@ impl Column {
 
     fn item_width(&self) -> usize {
         match self.letter {
+            'B' => 1,
             'I' => 2,
             'D' => 8,
             _ => 4,
@@ -145,6 +147,31 @@ impl Table {
             header,
             area: main,
         }
+    }
+
+    /// A table of one column of random bytes, which are a multiple of eight.
+    pub fn of_bytes(rows: usize, row_width: usize) -> Table {
+        let mut random = Random(88172645463325252);
+        let words = 0..rows * row_width / 8;
+        let columns = vec![Column::of('B', row_width)];
+        Table {
+            header: header(&columns, row_width, rows, 0, 0),
+            columns,
+            rows,
+            row_width,
+            area: words.flat_map(|_| random.draw().to_be_bytes()).collect(),
+        }
+    }
+
+    /// The main table with byte p of row r at p * rows + r.
+    pub fn turned(&self) -> Vec<u8> {
+        let mut turned = vec![0; self.rows * self.row_width];
+        for (r, row) in self.area.chunks_exact(self.row_width).enumerate() {
+            for (p, byte) in row.iter().enumerate() {
+                turned[p * self.rows + r] = *byte;
+            }
+        }
+        turned
     }
 
     /// The whole file, with a primary HDU that has no data.
