@@ -1,17 +1,17 @@
 #!/bin/sh
-# Tries ./cells and ./replay on what people do with them: refusals in words, bad lines, statuses, names of files,
-# pipes, a program that is older than a source, with and without rt. From the repository's root, once both programs are
-# built:
+# Tries ./cells, ./replay and ./coentrift on what people do with them: refusals in words, bad lines, statuses, names of
+# files, pipes, a program that is older than a source, with and without rt. From the repository's root, once the three
+# programs are built:
 #
 #     tests/wrappers.sh [SHELL]
 #
-# runs the two scripts under SHELL (sh if not given), in a copy of the repository without its proofs, with a stand-in
+# runs the three scripts under SHELL (sh if not given), in a copy of the repository without its proofs, with a stand-in
 # for rt that proves nothing, and prints `N cases, 0 differ`; or each case that differs, and ends with status 1.
 set -u
 unset CDPATH
 shell=${1-sh}
 here=$(cd "$(dirname -- "$0")/.." && pwd) || exit 2
-for program in cells replay; do
+for program in cells replay coentrift; do
     [ -x "$here/crates/$program/out/$program" ] || { echo "tests/wrappers.sh: build ./$program first" >&2; exit 2; }
 done
 work=$(mktemp -d) || exit 2
@@ -20,14 +20,14 @@ trap 'chmod -R u+rwx "$work"; rm -rf "$work"' EXIT
 # A copy of what the scripts look at, in a folder whose name has a space, and the tools that they call, without rt.
 root="$work/the repository"
 mkdir -p "$root/crates" "$work/tools" "$work/rt" "$work/direct"
-cp -R "$here/cells" "$here/replay" "$here/wrappers" "$here/crates.txt" "$root"
+cp -R "$here/cells" "$here/replay" "$here/coentrift" "$here/wrappers" "$here/crates.txt" "$root"
 for crate in "$here"/crates/*/; do
     crate=$(basename "$crate")
     mkdir -p "$root/crates/$crate"
     cp -R "$here/crates/$crate/src" "$root/crates/$crate"
 done
 cp -R "$here/crates/cells/data" "$root/crates/cells"
-for program in cells replay; do
+for program in cells replay coentrift; do
     mkdir "$root/crates/$program/out"
     cp "$here/crates/$program/out/$program" "$root/crates/$program/out"
 done
@@ -39,9 +39,10 @@ path=$bare
 mkdir "$work/tmp"
 export TMPDIR="$work/tmp"
 
-# The stand-in for rt says that two crates are proved.
+# The stand-in for rt says that two crates are proved, and prints what a program would that it ran.
 cat >"$work/rt/rt" <<'END'
 #!/bin/sh
+echo 'what the program prints'
 echo "crate card: modules loaded=294 checked=123" >&2
 echo "logic=proved functions=16" >&2
 echo "crate keyword: modules loaded=152 checked=48" >&2
@@ -117,7 +118,7 @@ wants() { # PROGRAM [TABLE [STEPS]]
 }
 nothing() { : >"$work/want"; }
 
-# A table that is refused by both programs, with these words.
+# A table that is refused by the three programs, with these words.
 refused() { # SCRIPT OF SED, WORDS
     table refused.fits "$1"
     refusal "$2" refused.fits
@@ -126,6 +127,7 @@ refusal() { # WORDS TABLE
     wants cells "$2"
     expect 1 "cells: refused $1" cells "$2"
     expect 1 "replay: refused $1" replay "$2" cell.txt
+    expect 1 "coentrift: refused $1" coentrift turn "$2"
 }
 
 table table.fits ''
@@ -219,7 +221,10 @@ need='the data need NAXIS1 x NAXIS2 + PCOUNT bytes'
 refused 's/^NAXIS2.*/NAXIS2  = 3/' "10 0: the file is shorter than its header says: $need"
 table large.fits 's/^NAXIS2.*/NAXIS2  = 10443/'
 head -c 70000 /dev/zero >>"$work/large.fits"
-refusal '10 0: the table needs more than the first 65,536 bytes of the file, and no more are read' large.fits
+more='refused 10 0: the table needs more than the first 65,536 bytes of the file, and no more are read'
+wants cells large.fits
+expect 1 "cells: $more" cells large.fits
+expect 1 "replay: $more" replay large.fits cell.txt
 
 # a whole file: a primary header in front
 whole='; this looks like a whole FITS file, whose table is an extension'
@@ -277,6 +282,56 @@ printf 'cell\n\n' >"$work/steps.txt"
 wants replay table.fits steps.txt
 expect 1 "replay: bad line 2: it reads ''. $may" replay table.fits steps.txt
 
+# coentrift: the example's rows turned, and what the program says itself
+head -c 2880 "$work/table.fits" >"$work/turned.fits"
+printf '\000\377\001\377\000\000\000\000\037\000\100\052' >>"$work/turned.fits"
+mkdir "$work/in here"
+odd="it's
+one"
+for name in 'a  turned.fits' -turned.fits --help turn 'in here/turned.fits' "$odd"; do
+    cp "$work/turned.fits" "$work/$name"
+done
+cp "$work/turned.fits" "$work/want"
+for name in table.fits 'a  table.fits' -table.fits -h 'in here/../table.fits' ./table.fits "$work/table.fits"; do
+    expect 0 '' coentrift turn "$name"
+done
+ln -s "$root/coentrift" "$work/another"
+root=$work expect 0 '' another turn table.fits
+ln -s ../another "$work/in here/a link"
+root="$work/in here" expect 0 '' 'a link' turn table.fits
+cp "$work/table.fits" "$work/want"
+for name in turned.fits 'a  turned.fits' -turned.fits --help turn 'in here/turned.fits' "$odd"; do
+    expect 0 '' coentrift turn-back "$name"
+done
+# more than the other two read of it
+"$here/crates/coentrift/out/coentrift" turn "$work/large.fits" >"$work/large.turned"
+check 'a large table is turned' "$(hold [ "$(wc -c <"$work/large.turned")" -eq "$(wc -c <"$work/large.fits")" ])"
+cp "$work/large.turned" "$work/want"
+expect 0 '' coentrift turn large.fits
+cp "$work/large.fits" "$work/want"
+expect 0 '' coentrift turn-back large.turned
+nothing
+usage=$("$here/crates/coentrift/out/coentrift" 2>&1)
+check 'usage' "$(hold [ "${usage%%
+*}" = 'usage: coentrift turn TABLE' ])"
+expect 2 "$usage" coentrift
+for words in turn table.fits 'turn table.fits table.fits' 'Turn table.fits' 'table.fits turn' --help '-- turn table.fits'; do
+    # shellcheck disable=SC2086
+    expect 2 "$usage" coentrift $words
+done
+expect 2 "$usage" coentrift 'turn table.fits'
+expect 2 "$usage" coentrift turn table.fits ''
+expect 2 "$usage" coentrift '' table.fits
+head -c 2097153 /dev/zero >"$work/long.fits"
+expect 1 "coentrift: 'long.fits' is longer than 2,097,152 bytes" coentrift turn-back long.fits
+rm "$work/long.fits"
+echo 'refused 1 0' >"$work/want"
+for name in none.fits direct '' "no
+file"; do
+    expect 1 "coentrift: cannot read '$name', which counts as empty
+coentrift: refused 1 0: the file is empty" coentrift turn "$name"
+done
+
 # words for every number, those of steps too
 "$shell" -c '. "$0/wrappers/words.sh"; words 12 2 x; words 14 4 x; words 15 0 x' "$root" >"$work/out" 2>&1
 cat >"$work/want" <<'END'
@@ -311,12 +366,30 @@ fi
 (cd "$work" && "$shell" "$root/cells" table.fits >&- 2>err)
 check 'no standard output: status 2' "$(hold [ $? -eq 2 ])"
 
+# the same of coentrift
+cp "$work/turned.fits" "$work/want"
+(cd "$work" && "$shell" "$root/coentrift" turn table.fits 2>err | cat >out)
+check 'coentrift, a pipe' "$(hold cmp -s "$work/out" "$work/want")"
+(cd "$work" && { "$shell" "$root/coentrift" turn large.fits 2>err; echo $? >status; } | head -c 10 >out)
+check 'coentrift, a closed pipe: its first bytes' "$(hold [ "$(cat "$work/out")" = 'XTENSION= ' ])"
+check 'coentrift, a closed pipe: nothing is said' "$(hold [ ! -s "$work/err" ])"
+check 'coentrift, a closed pipe: status 141' "$(hold [ "$(cat "$work/status")" -eq 141 ])"
+(cd "$work" && cat table.fits | "$shell" "$root/coentrift" turn /dev/stdin >out 2>err)
+check 'coentrift, a table on standard input' "$(hold cmp -s "$work/out" "$work/want")"
+for to in /dev/full '&-'; do
+    [ "$to" != /dev/full ] || [ -e /dev/full ] || continue
+    (cd "$work" && eval "\"$shell\" \"$root/coentrift\" turn table.fits >$to 2>err")
+    check "coentrift, output to $to: status 2" "$(hold [ $? -eq 2 ])"
+    check "coentrift, output to $to: words" "$(hold [ "$(cat "$work/err")" = 'coentrift: cannot write the output' ])"
+done
+
 # the build: a program that is newer than its sources needs no rt, one that is older or missing does
 with() { # PATH STATUS ERROR
     path=$1
     expect "$2" "$3" cells table.fits
 }
 : >"$RT_CALLED"
+wants cells table.fits
 with "$bare" 0 ''
 with "$work/rt:$bare" 0 ''
 check 'rt was not asked' "$(hold [ ! -s "$RT_CALLED" ])"
@@ -347,6 +420,44 @@ nothing
 with "$bare" 2 "cells: crates/cells/out/cells is not there, $no_rt"
 with "$work/rt:$bare" 2 "cells: crates/cells/out/cells is not there$building
 cells: the build left no crates/cells/out/cells; remove the folder crates/cells/out and try again"
+
+# coentrift is built in the same way, from its own sources
+turns() { # PATH STATUS ERROR
+    path=$1
+    expect "$2" "$3" coentrift turn table.fits
+}
+older='crates/coentrift/out/coentrift is older than crates/row/src/lib.rt'
+nothing
+turns "$bare" 2 "coentrift: $older, $no_rt"
+"$shell" -c 'name=coentrift root=$0; . "$root/wrappers/run.sh"; crates' "$root" >"$work/crates"
+many=$(($(wc -l <"$work/crates")))
+check 'the crates of coentrift' "$(hold [ "$(grep -cx 'card\|turn\|words\|coentrift\|cells\|replay' "$work/crates")" -eq 4 ])"
+building=": building, which takes some minutes if all of its $many crates are to be proved
+coentrift: proved card, 1 of at most $many crates
+coentrift: proved keyword, 2 of at most $many crates"
+export RT_STATUS=1
+turns "$work/rt:$bare" 2 "coentrift: $older$building
+fn header::parse: not proved
+coentrift: the build failed"
+unset RT_STATUS
+: >"$RT_CALLED"
+cp "$work/turned.fits" "$work/want"
+turns "$work/rt:$bare" 0 "coentrift: $older$building"
+called="run -- turn $root/crates/coentrift/data/table.fits"
+check 'rt was asked for coentrift' "$(hold [ "$(cat "$RT_CALLED")" = "$called" ])"
+turns "$bare" 0 ''
+sleep 1
+touch "$root/crates/turn/src/lib.rt"
+older='crates/coentrift/out/coentrift is older than crates/turn/src/lib.rt'
+echo 'refused 1 0' >"$work/want"
+path=$work/rt:$bare
+expect 1 "coentrift: $older$building
+coentrift: refused 1 0: the file is empty" coentrift turn empty.fits
+rm "$root/crates/coentrift/out/coentrift"
+nothing
+turns "$bare" 2 "coentrift: crates/coentrift/out/coentrift is not there, $no_rt"
+turns "$work/rt:$bare" 2 "coentrift: crates/coentrift/out/coentrift is not there$building
+coentrift: the build left no crates/coentrift/out/coentrift; remove the folder crates/coentrift/out and try again"
 
 # nothing is left behind
 check 'no temporary folder is left' "$(hold [ -z "$(ls "$work/tmp")" ])"
