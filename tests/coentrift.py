@@ -9,20 +9,20 @@ From the repository's root:
         runs the built program, crates/coentrift/out/coentrift, on every case below and on random ones, one for each
         number from A to B (0 to 999 if not given)
 
-`check` prints `N cases, 0 differ`; or the first case that differs, and ends with status 1. A case is the words after the
-program's name and, in a folder of its own, the file that they name. Standard output, standard error and the status must
-be what `printed` says, and the folder must be left as it was. What the program makes of a table is given to it again,
-with the other subcommand, and must come back.
+`check` prints `N cases, 0 differ`; or the first case that differs, and ends with status 1. A case is the words after
+the program's name and, in a folder of its own, the file that they name. Standard output, standard error and the status
+must be what `printed` says, and the folder must be left as it was. What the program makes of a table is given to it
+again, with the other subcommand, and must come back.
 
 `turned` and `turned_back` were written from the rule, byte p of row r goes to p x NAXIS2 + r and the bytes after
 NAXIS1 x NAXIS2 stay, and not from the program; the tables are read by layout_cases.py, which was written from the
 request too. The words of the refusals are stated here again, and wrappers/words.sh must say the same of each case.
 """
 import collections
+import itertools
 import os
 import random
 import re
-import resource
 import shutil
 import subprocess
 import sys
@@ -120,7 +120,8 @@ def facts(number, place, file):
         return {'place': place}
     name = name_of(records_of(file)[place]).decode('ascii')
     kind = 'string' if re.match('XTENSION|TFORM|TTYPE', name) else 'integer'
-    return {'place': place, 'name': name, 'kind': kind, 'wanted': WANTED.get(name), 'limit': SIZES.get(name, [0, 0])[1]}
+    limit = SIZES[name][1] if name in SIZES else 0
+    return {'place': place, 'name': name, 'kind': kind, 'wanted': WANTED.get(name), 'limit': limit}
 
 
 def words_of(number, place, file):
@@ -151,7 +152,7 @@ def refusal_of(file):
     return None
 
 
-def named_file(words, file):
+def as_read(words, file):
     """The file that the words name as it can be read: None for a missing one, and for a name that is not UTF-8."""
     return file if is_utf8(words[1]) else None
 
@@ -164,7 +165,7 @@ def printed(words, file):
     """What a run must write, of the words after the program's name and the file that they name, or None."""
     if is_usage(words):
         return Printed(b'', USAGE, 2)
-    (way, name), file, said = words, named_file(words, file), b''
+    (way, name), file, said = words, as_read(words, file), b''
     if file is None:
         file, said = b'', b'coentrift: cannot read %s, which counts as empty\n' % shown(name)
     if len(file) > LIMIT:
@@ -180,8 +181,8 @@ def printed(words, file):
 
 # ---- the table in data/ ----
 
-# Four rows of 13 bytes: an integer, three bytes, and the count and the offset of an array of bytes. The second digit of
-# a byte of RAW is its place there, the first its row and one.
+# Four rows of 13 bytes: an integer, three bytes, and the count and the offset of an array of bytes. The first digit of
+# a byte of RAW is the number of its row and one, the second its place among the three.
 ROWS = '''
 0001 101112 00000002 00000000
 ffff 202122 00000000 000f423f
@@ -251,7 +252,7 @@ def ways(why, file, said=None, name=b'table.fits'):
 
 
 def refused(why, file, number, place):
-    """A refusal, its number and place by hand."""
+    """A refusal, its number and its place by hand."""
     line = b'refused %d %d' % (number, place)
     said = Printed(line + b'\n', b'coentrift: ' + line + b': ' + words_of(number, place, file) + b'\n', 1)
     return ways(why, file, said)
@@ -264,7 +265,7 @@ def seeded(why, length):
 def sized(rows, width, heap=0, after=0, forms=None):
     """A file of a table of so many rows and places, whose bytes are of all kinds."""
     header = ended(table(forms or ['%dB' % width], width, rows=rows, pcount=heap))
-    return header + seeded((rows, width, heap, after).__repr__(), rows * width + heap + after)
+    return header + seeded('%d %d %d %d' % (rows, width, heap, after), rows * width + heap + after)
 
 
 def by_hand(why, rows, width, area, turn, after=''):
@@ -289,21 +290,28 @@ def hand_cases():
 
 
 def size_cases():
-    """Rows and places: few of each, near powers of 2, and tables as long as they may be."""
-    few, near = range(7), [63, 64, 65, 255, 256, 257]
-    sizes = [(rows, width) for rows in few for width in few] + [(rows, width) for rows in near for width in near]
-    sizes += [(rows, width) for rows in (1, 2, 3) for width in near] + [(rows, width) for rows in near for width in (1, 2, 3)]
-    made = [ways('%d rows of %d' % size, sized(*size, heap=5 * (sum(size) % 2), after=sum(size) % 3)) for size in sizes]
-    made += [ways('%d rows of %d, %d and %d bytes after them' % of, sized(*of)) for of in [
-        (2, 5000, 0, 0), (5000, 2, 0, 0), (3, 20001, 7, 1), (20001, 3, 1, 7), (1, 65536, 0, 0), (65536, 1, 0, 0),
-        (4, 4, 1000, 0), (4, 4, 0, 1000), (4, 4, 1000, 1000), (9, 7, 0, 2880), (0, 12, 0, 40), (0, 12, 40, 0),
-        (0, 1048576, 9, 9), (1, 1048575, 9, 9), (1, 1048576, 9, 9), (2, 1040000, 0, 0)]]
-    none = table(['0PE', '0B', '0QD'], 0, rows=16777216, pcount=3)
-    made.append(ways('16,777,216 rows of no bytes', ended(none) + b'heap and after'))
-    made.append(ways('no columns', ended(table([], 0, rows=7, pcount=3)) + b'heap and after'))
-    kinds = table(['3L', '12X', '2B', '1I', '1J', '1K', '4A', '1E', '1D', '1C', '1M', '1PE', '1QD'], 91, rows=11, pcount=6)
-    made.append(ways('columns of every form', ended(kinds) + seeded('kinds', 91 * 11 + 6)))
-    return sum(made, [])
+    """Rows and places: few of each, near powers of 2, and many of either."""
+    few, near, narrow = range(7), [63, 64, 65, 255, 256, 257], [1, 2, 3]
+    made = []
+    for some, others in ((few, few), (near, near), (narrow, near), (near, narrow)):
+        for rows, width in itertools.product(some, others):
+            file = sized(rows, width, heap=5 * (rows % 2), after=width % 3)
+            made += ways('%d rows of %d' % (rows, width), file)
+    for of in [(2, 5000, 0, 0), (5000, 2, 0, 0), (3, 20001, 7, 1), (20001, 3, 1, 7), (1, 65536, 0, 0),
+               (65536, 1, 0, 0), (4, 4, 1000, 0), (4, 4, 0, 1000), (4, 4, 1000, 1000), (9, 7, 0, 2880), (0, 12, 0, 40),
+               (0, 12, 40, 0), (0, 1048576, 9, 9), (1, 1048575, 9, 9), (1, 1048576, 9, 9), (2, 1040000, 0, 0)]:
+        made += ways('%d rows of %d, %d and %d bytes after them' % of, sized(*of))
+    return made
+
+
+def form_cases():
+    """Rows of no bytes, and a column of every form."""
+    empty = table(['0PE', '0B', '0QD'], 0, rows=16777216, pcount=3)
+    forms = ['3L', '12X', '2B', '1I', '1J', '1K', '4A', '1E', '1D', '1C', '1M', '1PE', '1QD']
+    every = table(forms, 91, rows=11, pcount=6)
+    return (ways('16,777,216 rows of no bytes', ended(empty) + b'heap and after')
+            + ways('no columns', ended(table([], 0, rows=7, pcount=3)) + b'heap and after')
+            + ways('columns of every form', ended(every) + seeded('every form', 91 * 11 + 6)))
 
 
 def long_file(file, length):
@@ -313,22 +321,19 @@ def long_file(file, length):
 def length_cases():
     """Files of the most bytes and of one more."""
     too_long = Printed(b'', b"coentrift: 'table.fits' is longer than 2,097,152 bytes\n", 1)
-    wide, header = sized(1, 1048576), longest(GOOD)
+    wide, more = sized(1, 1048576), ended(table(['9A'], 9, rows=999999))
     made = []
     for why, file in [('four rows and much after them', sized(4, 4)), ('a row of 1,048,576', wide),
-                      ('the longest header', header + listing.ROWS)]:
+                      ('the longest header', longest(GOOD) + listing.ROWS)]:
         made += ways('2,097,152 bytes: ' + why, long_file(file, LIMIT))
         made += ways('2,097,153 bytes: ' + why, long_file(file, LIMIT + 1), too_long)
     made += ways('2,097,152 bytes, all of them of the rows', sized(LIMIT - BLOCK, 1))
     made += ways('2,097,152 bytes, all of them of the rows or the heap', sized(1020, 2053, heap=212))
     made += refused('2,097,152 bytes without END', b'a' * LIMIT, 1, 0)
+    made += refused('a table that no file of 2,097,152 bytes has', long_file(more, LIMIT), 10, 0)
     made += ways('2,097,153 bytes without END', b'a' * (LIMIT + 1), too_long)
-    made += ways('2,097,153 bytes, and the table needs more', long_file(ended(table(['9A'], 9, rows=999999)), LIMIT + 1),
-                 too_long)
-    made += refused('a table that no file of 2,097,152 bytes has',
-                    long_file(ended(table(['1048576B'], 1048576, rows=2)), LIMIT), 10, 0)
-    made += ways('5,000,000 bytes', bytes(5000000), too_long)
-    return made
+    made += ways('2,097,153 bytes, and the table needs more', long_file(more, LIMIT + 1), too_long)
+    return made + ways('5,000,000 bytes', bytes(5000000), too_long)
 
 
 def whole_cases():
@@ -355,10 +360,11 @@ def whole_cases():
 
 def text_cases():
     """The words of a refusal that the cases of layout_cases.py do not have."""
-    twice = [keyword(name, '5') for name in ('TFORM999', 'TTYPE64', 'THEAP')]
     made = [('END alone', END, 1, 0), ('an empty file', b'', 1, 0), ('a byte', b'\0', 1, 0),
             ('4: all required names are missing', ended([]), 4, 0)]
-    made += [('3: %s' % name_of(card).decode('ascii'), ended(GOOD + [card, record(''), card]), 3, 14) for card in twice]
+    for name in ('TFORM999', 'TTYPE64', 'THEAP'):
+        card = keyword(name, '5')
+        made.append(('3: ' + name, ended(GOOD + [card, record(''), card]), 3, 14))
     made += [('4: %s without a value' % name, ended(inserted(0, record(name), of=without(name))), 4, 0)
              for name in TABLE_NAMES[:8]]
     made += [('4: %s after END' % name, padded(without(name) + [END, keyword(name, '1')]), 4, 0)
@@ -388,17 +394,23 @@ def listing_files():
 
 
 NAMES = [
-    b'a b', b'  ', b"it's", b"'", b'"', b'a\nb', b'\n', b'a\r\n', b'\t', b'back\\slash', b'%s %d %', b'{name}', b'$HOME',
-    b'*', b'?', b'`x`', b'-', b'--', b'-h', b'--help', b'-o', b'turn', b'turn-back', b'=', b'\x01\x7f', b'.hidden',
-    b'a folder/and another/t.fits', b'./t', b'a//t', b'n' * 255, 'Ünïcode 表 😀.fits'.encode('utf-8'),
+    b'a b', b'  ', b"it's", b"'", b'"', b'a\nb', b'\n', b'a\r\n', b'\t', b'back\\slash', b'%s %d %', b'{name}',
+    b'$HOME', b'*', b'?', b'`x`', b'-', b'--', b'-h', b'--help', b'-o', b'turn', b'turn-back', b'=', b'\x01\x7f',
+    b'.hidden', b'a folder/and another/t.fits', b'./t', b'a//t', b'n' * 255,
+    '\u00dcn\u00efcode \u8868 \U0001f600.fits'.encode('utf-8'),
     # the first and the last character of two, of three and of four bytes, and those beside the surrogates
     b'\xc2\x80', b'\xdf\xbf', b'\xe0\xa0\x80', b'\xef\xbf\xbf', b'\xf0\x90\x80\x80', b'\xf4\x8f\xbf\xbf',
     b'\xed\x9f\xbf', b'\xee\x80\x80', b'\xef\xbb\xbfname',
 ]
 
 # bytes that are no UTF-8: alone, cut, too long a form, a surrogate, above the last character
-NO_UTF8 = [b'\xff.fits', b'\x80', b'name\xe9', b'cut\xe2\x82', b'\xc0\xaf', b'\xc1\xbf', b'\xe0\x9f\xbf', b'\xed\xa0\x80',
-           b'\xf0\x8f\xbf\xbf', b'\xf4\x90\x80\x80', b'\xf5\x80\x80\x80', b'\xe2\x28\xa1', b'ok\xe2\x82\xac\xfe']
+NO_UTF8 = [
+    b'\xff.fits', b'\x80', b'name\xe9', b'cut\xe2\x82', b'\xc0\xaf', b'\xc1\xbf', b'\xe0\x9f\xbf', b'\xed\xa0\x80',
+    b'\xf0\x8f\xbf\xbf', b'\xf4\x90\x80\x80', b'\xf5\x80\x80\x80', b'\xe2\x28\xa1', b'ok\xe2\x82\xac\xfe',
+]
+
+# names of no file that can be read
+NO_FILE = [b'', b'.', b'..', b'/', b'./', b'none/..', b'/dev/null/x', b'n' * 256, b'n' * 4095, b'n/' * 2047 + b'n']
 
 
 def long_name(length):
@@ -413,34 +425,50 @@ def unread(name):
 
 
 def name_cases():
-    made = [ways('a name', sized(3, 5, heap=2), name=name) for name in NAMES + [long_name(n) for n in (4093, 4094, 4095)]]
-    made += [ways('a name whose file is refused', ended(without('NAXIS')), name=name) for name in NAMES]
-    made += [ways('a name whose file is too long', bytes(LIMIT + 1), name=name) for name in (b"it's\n", b'-h')]
-    made += [ways('a name whose file is missing', None, unread(b"'" + name + b"'"), name) for name in NAMES + [
-        b'', b'.', b'..', b'/', b'./', b'none/..', b'/dev/null/x', b'n' * 256, b'n' * 4095, b'n/' * 2047 + b'n']]
+    good, bad, long = sized(3, 5, heap=2), ended(without('NAXIS')), bytes(LIMIT + 1)
     other = unread(b'the file, whose name is not UTF-8')
-    made += [ways('a name that is not UTF-8', file, other, name) for name in NO_UTF8 for file in (None, GOOD_FILE)]
-    return sum(made, [])
+    made = []
+    for name in NAMES:
+        made += ways('a name', good, name=name) + ways('a name whose file is refused', bad, name=name)
+    for name in [long_name(length) for length in (4093, 4094, 4095)]:
+        made += ways('a long name', good, name=name)
+    for name in (b"it's\n", b'-h'):
+        made += ways('a name whose file is too long', long, name=name)
+    for name in NAMES + NO_FILE:
+        made += ways('a name whose file is missing', None, unread(b"'" + name + b"'"), name)
+    for name, file in itertools.product(NO_UTF8, (None, GOOD_FILE)):
+        made += ways('a name that is not UTF-8', file, other, name)
+    return made
+
+
+# words that are no subcommand
+NO_SUBCOMMAND = [
+    b'Turn', b'TURN', b'turn ', b' turn', b'turn\n', b'tur', b'turns', b'turn-', b'turn-bac', b'turn-backs',
+    b'turn_back', b'Turn-Back', b'turn back', b'turnback', b'turn-back ', b'-turn', b'--turn', b'--help', b'-h',
+    b'help', b'', b'back', b'\xf4urn', b'turn\xff', b'table', b'./turn', b'retire', b'turn'.ljust(4096),
+    b'turn-back'.ljust(4096),
+]
+
+# too few words and too many
+NO_PAIR = [
+    [], [b'turn'], [b'turn-back'], [b'table'], [b''], [b'help'], [b'--help'], [b'--version'], [b'turn', b'table', b''],
+    [b'turn', b'', b''], [b'turn', b'table', b'table'], [b'turn-back', b'table', b'more'], [b'turn'] * 3,
+    [b'turn'] + [b'table'] * 3000,
+]
 
 
 def usage_cases():
-    long = [b'n' * 4096, b'./' * 2046 + b'table', b'n' * 100000]
-    assert [len(name) for name in long] == [4096, 4097, 100000] and len(long_name(4096)) == 4096
-    words = [[], [b'turn'], [b'turn-back'], [b'table'], [b''], [b'', b''], [b'turn', b'table', b''], [b'turn', b'', b''],
-             [b'turn', b'table', b'table'], [b'turn-back', b'table', b'more'], [b'turn'] * 3, [b'turn'] + [b'table'] * 3000]
-    words += [[name, b'table'] for name in [
-        b'Turn', b'TURN', b'turn ', b' turn', b'turn\n', b'tur', b'turns', b'turn-', b'turn-bac', b'turn-backs', b'turn_back',
-        b'Turn-Back', b'turn back', b'turnback', b'turn-back ', b'-turn', b'--turn', b'--help', b'-h', b'help', b'', b'back',
-        b'\xf4urn', b'turn\xff', b'table', b'./turn', b'retire'] + long + [b'turn'.ljust(4096), b'turn-back'.ljust(4096)]]
-    words += [[way, name] for way in WAYS for name in long + [long_name(4096)]]
-    words += [[b'turn', b'table', long[0]], [long[2]], [long[2]] * 3, [long[0]] * 2, [b'help'], [b'--help'], [b'--version']]
-    made = [Case('usage', of, GOOD_FILE, Printed(b'', USAGE, 2)) for of in words]
-    return made + [Case('names in the other order', [b'table', way], GOOD_FILE, Printed(b'', USAGE, 2)) for way in WAYS]
+    long = [b'n' * 4096, long_name(4096), b'./' * 2046 + b'table', b'n' * 100000]
+    assert [len(name) for name in long] == [4096, 4096, 4097, 100000]
+    words = NO_PAIR + [[name, b'table'] for name in NO_SUBCOMMAND + long] + [[b'table', way] for way in WAYS]
+    words += [[way, name] for way in WAYS for name in long]
+    words += [[b'turn', b'table', name] for name in long] + [[name] * count for name in long for count in (1, 2, 3)]
+    return [Case('usage', of, GOOD_FILE, Printed(b'', USAGE, 2)) for of in words]
 
 
 def named():
-    return (hand_cases() + size_cases() + length_cases() + whole_cases() + text_cases() + layout_files() + listing_files()
-            + name_cases() + usage_cases())
+    return (hand_cases() + size_cases() + form_cases() + length_cases() + whole_cases() + text_cases() + layout_files()
+            + listing_files() + name_cases() + usage_cases())
 
 
 # ---- random cases ----
@@ -533,10 +561,10 @@ def files_in(folder):
 
 
 def said_elsewhere(words, file, place):
-    """A refusal in the words of wrappers/words.sh, beside those of this script; None where there is nothing to hold."""
+    """A refusal in the words of wrappers/words.sh, beside those of this script; or None."""
     if is_usage(words):
         return None
-    file = named_file(words, file)
+    file = as_read(words, file)
     refusal = refusal_of(file or b'') if len(file or b'') <= LIMIT else None
     # ./cells reads 65,536 bytes of a file, and says so
     if refusal is None or (refusal[0] == 10 and len(file) > listing.MOST):
@@ -580,102 +608,95 @@ def in_shell(program, script, folder):
     return run('sh', ['-c', script, program], folder)
 
 
+def wanted_in(folder, words, named_as=None):
+    """What must be written of words that name a file in the folder, or none; and of the file by another name."""
+    words, file = [text(word) for word in words.split()], None
+    place = place_of(words, folder)
+    if os.path.isfile(place):
+        with open(place, 'rb') as of:
+            file = of.read()
+    return printed([words[0], text(named_as)] if named_as else words, file)
+
+
 def pipe_runs(program, folder):
-    """Whoever reads the output closes it."""
+    """Whoever reads the output closes it, before the program writes or while it does."""
     script = '{ "$0" %s; echo $? >status; } | head -c 10; cat status >&2'
-    for name, start in (('large', b'XTENSION= '), ('refused', b'refused 4 '), ('missing', b'refused 1 ')):
-        said = in_shell(program, script % ('turn ' + name), folder)
-        ended_by = {'large': (b'141\n',), 'refused': (b'1\n',), 'missing': (b'1\n',)}[name]
-        said = said._replace(err=said.err.splitlines(True)[-1])
-        yield 'head -c 10 of %s' % name, said, Printed(start, ended_by[0], 0)
-    for name, status in (('large', 141), ('small', 141), ('refused', 141), ('missing', 141)):
-        for restored in (True, False):
-            reader, writer = os.pipe()
-            os.close(reader)
-            said = run(program, [b'turn', text(name)], folder, stdout=writer, restore_signals=restored)
-            os.close(writer)
-            yield 'a pipe that nobody reads, %s' % name, said, Printed(b'', b'', status)
+    for words, status in (('turn large', 141), ('turn-back large', 141), ('turn refused', 1), ('turn missing', 1)):
+        wanted = wanted_in(folder, words)
+        said = in_shell(program, script % words, folder)
+        yield 'head -c 10: ' + words, said, Printed(wanted.out[:10], wanted.err + b'%d\n' % status, 0)
+    all_words = ('turn large', 'turn small', 'turn refused', 'turn missing')
+    for words, restored in itertools.product(all_words, (True, False)):
+        reader, writer = os.pipe()
+        os.close(reader)
+        said = run(program, text(words).split(), folder, stdout=writer, restore_signals=restored)
+        os.close(writer)
+        yield 'a pipe that nobody reads: ' + words, said, Printed(b'', b'', 141)
 
 
 def full_runs(program, folder):
-    """Output that cannot be written, errors that cannot be."""
-    failed = b'coentrift: cannot write the output\n'
-    for words, file in (('turn small', True), ('turn-back large', True), ('turn refused', True), ('turn missing', True),
-                        ('turn long', False), ('turn', False), ('', False)):
-        list_of = [text(word) for word in words.split()]
-        there = os.path.join(folder, words.split()[-1]) if len(list_of) == 2 else None
-        content = open(there, 'rb').read() if there and os.path.exists(there) else None
-        expected = printed(list_of, content)
-        of_output = Printed(b'', failed, 2) if file else Printed(b'', expected.err, expected.status)
-        yield 'no standard output: ' + words, in_shell(program, '"$0" %s >&-' % words, folder), of_output
-        yield 'no standard error: ' + words, in_shell(program, '"$0" %s 2>&-' % words, folder), expected._replace(err=b'')
-        if os.path.exists('/dev/full'):
-            yield 'a full disk: ' + words, in_shell(program, '"$0" %s >/dev/full' % words, folder), of_output
-            yield ('errors to a full disk: ' + words, in_shell(program, '"$0" %s 2>/dev/full' % words, folder),
-                   expected._replace(err=b''))
+    """Standard output or standard error takes nothing."""
+    for words in ('turn small', 'turn-back large', 'turn refused', 'turn missing', 'turn long', 'turn', ''):
+        wanted = wanted_in(folder, words)
+        no_output = Printed(b'', b'coentrift: cannot write the output\n', 2) if wanted.out else wanted
+        no_error = wanted._replace(err=b'')
+        for to, said in (('>&-', no_output), ('2>&-', no_error), ('>/dev/full', no_output), ('2>/dev/full', no_error)):
+            if '/dev' not in to or os.path.exists('/dev/full'):
+                yield '%s %s' % (words, to), in_shell(program, '"$0" %s %s' % (words, to), folder), said
 
 
 def stack_runs(program, folder):
-    """The program on a smaller stack; the first limit is the usual one."""
-    for kib in (8192, 7680):
-        for words in ([b'turn', b'large'], [b'turn-back', b'large'], [b'turn', b'long'], [b'turn', b'refused'],
-                      [b'turn', b'missing'], [], [b'n' * 100000] * 3):
-            def limit():
-                resource.setrlimit(resource.RLIMIT_STACK, (kib * 1024, kib * 1024))
-            there = os.path.join(folder, words[-1].decode('ascii')) if len(words) == 2 else ''
-            content = open(there, 'rb').read() if os.path.exists(there) else None
-            yield ('a stack of %d KiB: %d words' % (kib, len(words)), run(program, words, folder, preexec_fn=limit),
-                   printed(words, content))
+    """The program on the usual stack, and on a smaller one."""
+    for kib, words in itertools.product((8192, 7680), (
+            'turn large', 'turn-back large', 'turn long', 'turn refused', 'turn missing', '', 'n' * 100000 + ' n')):
+        said = in_shell(program, 'ulimit -s %d && exec "$0" %s' % (kib, words), folder)
+        yield 'a stack of %d KiB: %s' % (kib, words[:40]), said, wanted_in(folder, words)
 
 
 def fifo_runs(program, folder):
-    """A FIFO: opening one waits for whoever writes, which a usage error must not do."""
-    os.mkfifo(os.path.join(folder, 'fifo'))
-    for words in ([b'turn', b'fifo', b'fifo'], [b'Turn', b'fifo'], [b'fifo'], [b'fifo', b'turn'], [b'', b'fifo'],
-                  [b'turn', b'./' * 2046 + b'fifo']):
-        yield 'usage, a FIFO', run(program, words, folder), Printed(b'', USAGE, 2)
+    """A FIFO: opening one waits for whoever writes to it, which a usage error must not do."""
+    for words in ('turn fifo fifo', 'Turn fifo', 'fifo', 'fifo turn', '-- fifo', 'turn ' + './' * 2046 + 'fifo'):
+        yield 'usage, a FIFO', run(program, text(words).split(), folder), Printed(b'', USAGE, 2)
     for name in ('small', 'large', 'refused', 'long'):
-        with open(os.path.join(folder, name), 'rb') as file:
-            content = file.read()
-        # some bytes at a time, with a wait between the first ones
+        # a part at a time, with a wait between the first ones
         feed = '{ head -c 100; sleep 0.1; head -c 2881; sleep 0.1; cat; } <%s >fifo & exec "$0" turn fifo' % name
-        yield 'a FIFO of ' + name, in_shell(program, feed, folder), printed([b'turn', b'fifo'], content)
-        through = 'cat %s | "$0" turn-back /dev/stdin' % name
-        yield 'standard input, ' + name, in_shell(program, through, folder), printed([b'turn-back', b'/dev/stdin'], content)
+        yield 'a FIFO: ' + name, in_shell(program, feed, folder), wanted_in(folder, 'turn ' + name, 'fifo')
+        said = in_shell(program, 'cat %s | "$0" turn /dev/stdin' % name, folder)
+        yield 'standard input: ' + name, said, wanted_in(folder, 'turn ' + name, '/dev/stdin')
 
 
-def other_runs(program, folder):
-    small = open(os.path.join(folder, 'small'), 'rb').read()
-    expected = printed([b'turn', b'small'], small)
-    said = in_shell(program, '"$0" turn small >out && cat out && rm out', folder)
-    yield 'output to a file', said, expected
-    said = in_shell(program, 'printf before >out; "$0" turn small >>out && cat out && rm out', folder)
-    yield 'output to the end of a file', said, expected._replace(out=b'before' + expected.out)
-    said = in_shell(program, '"$0" turn small | "$0" turn-back /dev/stdin', folder)
-    yield 'turn, and back through a pipe', said, Printed(small, b'', 0)
-    os.symlink('small', os.path.join(folder, 'link'))
-    yield 'a link to a table', run(program, [b'turn', b'link'], folder), expected
-    yield 'an empty environment', run(program, [b'turn', b'small'], folder, env={}), expected
+def file_runs(program, folder):
+    """Output to a file, a table through a link, no file to read."""
+    wanted = wanted_in(folder, 'turn small')
+    said = in_shell(program, '"$0" turn small >out && cat out', folder)
+    yield 'output to a file', said, wanted
+    said = in_shell(program, 'printf before >out; "$0" turn small >>out && cat out', folder)
+    yield 'output to the end of a file', said, wanted._replace(out=b'before' + wanted.out)
+    said = in_shell(program, '"$0" turn small | "$0" turn-back /dev/stdin | "$0" turn /dev/stdin', folder)
+    yield 'three runs, one after the other', said, wanted
+    yield 'a link', run(program, [b'turn', b'link'], folder), wanted
+    yield 'no environment', run(program, [b'turn', b'small'], folder, env={}), wanted
     yield '/dev/null', run(program, [b'turn', b'/dev/null'], folder), printed([b'turn', b'/dev/null'], b'')
-    os.symlink('nowhere', os.path.join(folder, 'dangling'))
-    for name in (b'dangling', b'folder', b'small/'):
-        yield 'no file to read', run(program, [b'turn-back', name], folder), printed([b'turn-back', name], None)
-    if os.geteuid() == 0:
-        print('left out: an unreadable file, since the user is root', file=sys.stderr)
-        return
-    os.chmod(os.path.join(folder, 'locked'), 0)
-    yield 'an unreadable file', run(program, [b'turn', b'locked'], folder), printed([b'turn', b'locked'], None)
+    for name in (b'dangling', b'folder', b'small/', b'locked'):
+        if name == b'locked' and os.geteuid() == 0:
+            print('left out: an unreadable file, since the user is root', file=sys.stderr)
+        else:
+            yield 'no file to read', run(program, [b'turn-back', name], folder), printed([b'turn-back', name], None)
 
 
-def other_kinds(program):
+def other_runs(program):
     """The runs of other kinds, in a folder with these files: what for, what was written and what must be."""
     folder = tempfile.mkdtemp()
+    small, large = sized(3, 5, heap=2), sized(1020, 2053, heap=212)
+    for name, file in (('small', small), ('large', large), ('long', bytes(LIMIT + 1)), ('locked', small),
+                       ('refused', ended(without('NAXIS')))):
+        placed([b'turn', text(name)], file, folder)
+    os.chmod(os.path.join(folder, 'locked'), 0)
     os.mkdir(os.path.join(folder, 'folder'))
-    for name, file in (('small', sized(3, 5, heap=2)), ('large', sized(1020, 2053, heap=212)), ('long', bytes(LIMIT + 1)),
-                       ('refused', ended(without('NAXIS'))), ('locked', sized(3, 5))):
-        with open(os.path.join(folder, name), 'wb') as to:
-            to.write(file)
-    for kind in (pipe_runs, full_runs, stack_runs, fifo_runs, other_runs):
+    os.mkfifo(os.path.join(folder, 'fifo'))
+    os.symlink('small', os.path.join(folder, 'link'))
+    os.symlink('nowhere', os.path.join(folder, 'dangling'))
+    for kind in (pipe_runs, full_runs, stack_runs, fifo_runs, file_runs):
         yield from kind(program, folder)
     shutil.rmtree(folder)
 
@@ -685,8 +706,12 @@ def other_kinds(program):
 
 def short(of):
     """The start of what was written, in ASCII."""
-    shown_part = ascii(of[:400].decode('latin-1'))[1:-1]
-    return '%d bytes: %s%s' % (len(of), shown_part, ' ..' if len(of) > 400 else '')
+    start = ascii(of[:400].decode('latin-1'))[1:-1]
+    return '%d bytes: %s%s' % (len(of), start, ' ..' if len(of) > 400 else '')
+
+
+def shortened(of):
+    return 'status %s\n  standard error %s\n  standard output %s' % (of.status, short(of.err), short(of.out))
 
 
 def first_difference(said, expected):
@@ -695,39 +720,44 @@ def first_difference(said, expected):
 
 
 def tell(why, words, found):
-    print('%s differs in %s' % (why, found.what))
+    print('%s differs: %s' % (found.what, why))
     print('words: %s' % ascii([word[:100] for word in words]))
     for name, of in (('expected', found.expected), ('written', found.said)):
-        if not isinstance(of, Printed):
-            print('%s: %s' % (name, of))
-            continue
-        print('%s: status %s\n  standard error %s\n  standard output %s' % (name, of.status, short(of.err), short(of.out)))
+        print('%s: %s' % (name, shortened(of) if isinstance(of, Printed) else of))
     if isinstance(found.said, Printed) and found.said.out != found.expected.out:
         print('standard output differs from byte %d on' % first_difference(found.said.out, found.expected.out))
+
+
+def sort_of(wanted):
+    """The number of a refusal, or the status."""
+    if wanted.status == 1 and wanted.out:
+        return 'refused %s' % wanted.out.split()[1].decode('ascii')
+    return {0: 'turned', 1: 'too long', 2: 'usage'}[wanted.status]
+
+
+def differences(program, seeds, counts):
+    """Runs the cases: what each is for, its words, and what differs or None."""
+    for one in named() + [random_one(seed) for seed in seeds]:
+        wanted = printed(one.words, one.file)
+        counts[sort_of(wanted)] += 1
+        yield one.why, one.words, tried(program, one, wanted)
+    for why, said, wanted in other_runs(program):
+        counts['of other kinds'] += 1
+        yield why, [], None if said == wanted else Differs('the run', wanted, said)
 
 
 def check(program, seeds):
     program = os.path.abspath(program)
     if not os.access(program, os.X_OK):
         sys.exit('no program at %s' % program)
-    count, counts = 0, collections.Counter()
-    for one in named() + [random_one(seed) for seed in seeds]:
-        count += 1
-        expected = printed(one.words, one.file)
-        counts[expected.out.split()[1] if expected.status == 1 and expected.out else b'status %d' % expected.status] += 1
-        found = tried(program, one, expected)
+    counts = collections.Counter()
+    for why, words, found in differences(program, seeds, counts):
         if found:
-            tell(one.why, one.words, found)
-            print('%d cases, the last one differs' % count)
+            tell(why, words, found)
+            print('%d cases, the last one differs' % sum(counts.values()))
             return 1
-    for why, said, expected in other_kinds(program):
-        count += 1
-        if said != expected:
-            tell(why, [], Differs('the run', expected, said))
-            print('%d cases, the last one differs' % count)
-            return 1
-    print(', '.join('%s: %d' % (key.decode('ascii'), counts[key]) for key in sorted(counts)), file=sys.stderr)
-    print('%d cases, 0 differ' % count)
+    print(', '.join('%s: %d' % one for one in sorted(counts.items())), file=sys.stderr)
+    print('%d cases, 0 differ' % sum(counts.values()))
     return 0
 
 
