@@ -291,15 +291,16 @@ def hand_cases():
 
 def size_cases():
     """Rows and places: few of each, near powers of 2, and many of either."""
-    few, near, narrow = range(7), [63, 64, 65, 255, 256, 257], [1, 2, 3]
+    few, near, narrow = range(7), [15, 16, 17, 63, 64, 65, 255, 256, 257], [1, 2, 3]
     made = []
     for some, others in ((few, few), (near, near), (narrow, near), (near, narrow)):
         for rows, width in itertools.product(some, others):
             file = sized(rows, width, heap=5 * (rows % 2), after=width % 3)
             made += ways('%d rows of %d' % (rows, width), file)
     for of in [(2, 5000, 0, 0), (5000, 2, 0, 0), (3, 20001, 7, 1), (20001, 3, 1, 7), (1, 65536, 0, 0),
-               (65536, 1, 0, 0), (4, 4, 1000, 0), (4, 4, 0, 1000), (4, 4, 1000, 1000), (9, 7, 0, 2880), (0, 12, 0, 40),
-               (0, 12, 40, 0), (0, 1048576, 9, 9), (1, 1048575, 9, 9), (1, 1048576, 9, 9), (2, 1040000, 0, 0)]:
+               (65536, 1, 0, 0), (511, 129, 0, 0), (512, 128, 3, 0), (513, 127, 0, 3), (127, 513, 1, 1),
+               (4, 4, 1000, 0), (4, 4, 0, 1000), (4, 4, 1000, 1000), (9, 7, 0, 2880), (0, 12, 0, 40), (0, 12, 40, 0),
+               (0, 1048576, 9, 9), (1, 1048575, 9, 9), (1, 1048576, 9, 9), (2, 1040000, 0, 0)]:
         made += ways('%d rows of %d, %d and %d bytes after them' % of, sized(*of))
     return made
 
@@ -666,8 +667,10 @@ def fifo_runs(program, folder):
 
 
 def file_runs(program, folder):
-    """Output to a file, a table through a link, no file to read."""
-    wanted = wanted_in(folder, 'turn small')
+    """Output to a file or with the errors, a table through a link, a device, no file to read."""
+    refused_too, wanted = wanted_in(folder, 'turn refused'), wanted_in(folder, 'turn small')
+    said = in_shell(program, '"$0" turn refused 2>&1', folder)
+    yield 'output, then the errors', said, Printed(refused_too.out + refused_too.err, b'', 1)
     said = in_shell(program, '"$0" turn small >out && cat out', folder)
     yield 'output to a file', said, wanted
     said = in_shell(program, 'printf before >out; "$0" turn small >>out && cat out', folder)
@@ -676,7 +679,8 @@ def file_runs(program, folder):
     yield 'three runs, one after the other', said, wanted
     yield 'a link', run(program, [b'turn', b'link'], folder), wanted
     yield 'no environment', run(program, [b'turn', b'small'], folder, env={}), wanted
-    yield '/dev/null', run(program, [b'turn', b'/dev/null'], folder), printed([b'turn', b'/dev/null'], b'')
+    for name, file in ((b'/dev/null', b''), (b'/dev/zero', bytes(LIMIT + 1))):
+        yield 'a device', run(program, [b'turn', name], folder), printed([b'turn', name], file)
     for name in (b'dangling', b'folder', b'small/', b'locked'):
         if name == b'locked' and os.geteuid() == 0:
             print('left out: an unreadable file, since the user is root', file=sys.stderr)

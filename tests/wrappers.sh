@@ -315,7 +315,8 @@ usage=$("$here/crates/coentrift/out/coentrift" 2>&1)
 check 'usage' "$(hold [ "${usage%%
 *}" = 'usage: coentrift turn TABLE' ])"
 expect 2 "$usage" coentrift
-for words in turn table.fits 'turn table.fits table.fits' 'Turn table.fits' 'table.fits turn' --help '-- turn table.fits'; do
+for words in turn table.fits 'turn table.fits table.fits' 'Turn table.fits' 'table.fits turn' --help \
+    '-- turn table.fits'; do
     # shellcheck disable=SC2086
     expect 2 "$usage" coentrift $words
 done
@@ -374,7 +375,7 @@ check 'coentrift, a pipe' "$(hold cmp -s "$work/out" "$work/want")"
 check 'coentrift, a closed pipe: its first bytes' "$(hold [ "$(cat "$work/out")" = 'XTENSION= ' ])"
 check 'coentrift, a closed pipe: nothing is said' "$(hold [ ! -s "$work/err" ])"
 check 'coentrift, a closed pipe: status 141' "$(hold [ "$(cat "$work/status")" -eq 141 ])"
-(cd "$work" && cat table.fits | "$shell" "$root/coentrift" turn /dev/stdin >out 2>err)
+(cd "$work" && "$shell" "$root/coentrift" turn /dev/stdin <table.fits >out 2>err)
 check 'coentrift, a table on standard input' "$(hold cmp -s "$work/out" "$work/want")"
 for to in /dev/full '&-'; do
     [ "$to" != /dev/full ] || [ -e /dev/full ] || continue
@@ -431,7 +432,8 @@ nothing
 turns "$bare" 2 "coentrift: $older, $no_rt"
 "$shell" -c 'name=coentrift root=$0; . "$root/wrappers/run.sh"; crates' "$root" >"$work/crates"
 many=$(($(wc -l <"$work/crates")))
-check 'the crates of coentrift' "$(hold [ "$(grep -cx 'card\|turn\|words\|coentrift\|cells\|replay' "$work/crates")" -eq 4 ])"
+seen=$(grep -cx 'card\|turn\|words\|coentrift\|cells\|replay' "$work/crates")
+check 'the crates of coentrift' "$(hold [ "$seen" -eq 4 ])"
 building=": building, which takes some minutes if all of its $many crates are to be proved
 coentrift: proved card, 1 of at most $many crates
 coentrift: proved keyword, 2 of at most $many crates"
