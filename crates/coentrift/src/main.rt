@@ -38,10 +38,7 @@ fn read_arguments(rt: &HostRuntime) -> Result<Option<Vec<Vec<u8>>>, AllocError> 
 }
 
 // What the arguments ask for; none where they are wrong.
-fn parse<'a>(
-    rt: &HostRuntime,
-    args: &'a [Vec<u8>],
-) -> Result<Option<Subcommand<'a>>, AllocError>
+fn parse<'a>(rt: &HostRuntime, args: &'a [Vec<u8>]) -> Result<Option<Subcommand<'a>>, AllocError>
     ensures { IfOk result (λ s. asked_by s ≡ asked (map (λ a. vec_items a) args.now)) }
 {
     let mut lent: Vec<&[u8]> = Vec::new(rt.alloc());
