@@ -115,7 +115,7 @@ build() { # [ARGUMENT ..]
     say "$why: building, which takes some minutes if all of its $((many)) crates are to be proved"
     [ -n "${room-}" ] || make_room
     : >"$room/began"
-    # rt runs what it has built; only what it says of the build is looked at
+    # rt runs what it has built too, and its status is the program's; of what it says only the build is looked at
     (cd "$root/crates/$name" && rt run "$@" 2>&1 >/dev/null </dev/null; echo $? >"$room/status") | progress "$((many))"
     if [ "$(cat "$room/status")" -ne 0 ]; then
         sed '/^rt: chose /d; /: begins with what a check kept /d; /^checked /d; /: proved$/d; /: modules loaded=/d; /^logic=proved/d; /^logic /d; /^axioms /d' "$room/log" >&2
