@@ -266,12 +266,14 @@ fn main() {
     ] {
         goal(name, "below 1.5", spread(&figures), spread(&figures) < 1.5);
     }
-    for (shape, ratio) in by_shape {
-        goal(
-            &format!("turn / copy, {shape}"),
-            "below 4",
-            ratio,
-            ratio < 4.0,
-        );
+    for (shape, ratios) in by_shape {
+        for (way, ratio) in ["turn", "back"].into_iter().zip(ratios) {
+            goal(
+                &format!("{way} / copy, {shape}"),
+                "below 4",
+                ratio,
+                ratio < 4.0,
+            );
+        }
     }
 }

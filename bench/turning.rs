@@ -6,16 +6,19 @@ use crate::tables::Table;
 use std::hint::black_box;
 
 /// Rows and bytes a row, 64 MB in all.
-const SHAPES: [(usize, usize); 5] = [
+const SHAPES: [(usize, usize); 8] = [
     (64, 1_048_576),
+    (1_024, 65_536),
     (65_536, 1_024),
+    (409_600, 164),
+    (2_097_152, 32),
+    (4_194_304, 16),
     (8_388_608, 8),
     (16_777_216, 4),
-    (409_600, 164),
 ];
 
-/// How many times as long as a copy turning takes, by shape.
-pub fn time_turning() -> Vec<(String, f64)> {
+/// How many times as long as a copy turning and turning back take, by shape.
+pub fn time_turning() -> Vec<(String, [f64; 2])> {
     println!("\nturning 64 MB, ms, the entry included, and by the time of a copy");
     println!(
         "  {:20} {:>10} {:>10} {:>10} {:>12} {:>12}",
@@ -24,7 +27,7 @@ pub fn time_turning() -> Vec<(String, f64)> {
     SHAPES.map(time_shape).into()
 }
 
-fn time_shape((rows, row_width): (usize, usize)) -> (String, f64) {
+fn time_shape((rows, row_width): (usize, usize)) -> (String, [f64; 2]) {
     let name = format!("{rows} x {row_width}");
     let table = Table::of_bytes(rows, row_width);
     let (header, area, turned) = (&table.header, &table.area, &table.turned());
@@ -43,5 +46,5 @@ fn time_shape((rows, row_width): (usize, usize)) -> (String, f64) {
     let [copy_ms, turn_ms, back_ms] = [copy, turn, back].map(|ns| ns / 1e6);
     let (by_copy, back_by_copy) = (turn / copy, back / copy);
     println!("  {name:20} {copy_ms:10.2} {turn_ms:10.2} {back_ms:10.2} {by_copy:12.2} {back_by_copy:12.2}");
-    (name, by_copy)
+    (name, [by_copy, back_by_copy])
 }
