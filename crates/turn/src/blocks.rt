@@ -13,11 +13,10 @@ const TILE_SIZE: usize = BLOCK_ROWS * BLOCK_PLACES;
 // Rows up to this width lie close enough together to be read where they are.
 const NARROW_WIDTH: usize = 16;
 
-// A table of up to this many rows is turned row by row.
-const FEW_ROWS: usize = 8;
+// A table of up to this many rows is turned row by row, at as many places at a time as make a tile of them.
+const FEW_ROWS: usize = 16;
 
-// The places that are turned at a time there.
-const FEW_PLACES: usize = 1024;
+const FEW_PLACES: usize = TILE_SIZE / FEW_ROWS;
 
 // The rows that are turned, and the bytes that begin with them.
 #[derive(Clone, Copy)]
