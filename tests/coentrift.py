@@ -262,31 +262,34 @@ def seeded(why, length):
     return random.Random(why).randbytes(length)
 
 
-def sized(rows, width, heap=0, after=0, forms=None):
+def sized(rows, width, heap=0, after=0):
     """A file of a table of so many rows and places, whose bytes are of all kinds."""
-    header = ended(table(forms or ['%dB' % width], width, rows=rows, pcount=heap))
+    header = ended(table(['%dB' % width], width, rows=rows, pcount=heap))
     return header + seeded('%d %d %d %d' % (rows, width, heap, after), rows * width + heap + after)
 
 
-def by_hand(why, rows, width, area, turn, after=''):
-    """A table by its bytes in hex, as they are and turned."""
-    header = ended(table(['%dB' % width], width, rows=rows))
-    files = [header + bytes.fromhex(of + after) for of in (area, turn)]
-    return [Case('turn by hand: ' + why, [b'turn', b't'], files[0], Printed(files[1], b'', 0)),
-            Case('turn-back by hand: ' + why, [b'turn-back', b't'], files[1], Printed(files[0], b'', 0))]
+# Rows and places, the rows in hex as they are and turned, and what follows them.
+BY_HAND = [
+    (2, 3, '0a0b0c 1a1b1c', '0a1a 0b1b 0c1c', ''),
+    (3, 2, '0a0b 1a1b 2a2b', '0a1a2a 0b1b2b', 'ff'),
+    (2, 2, '0a0b 1a1b', '0a1a 0b1b', ''),
+    (1, 4, '0a0b0c0d', '0a 0b 0c 0d', '0102'),
+    (4, 1, '0a 1a 2a 3a', '0a1a2a3a', '0102'),
+    (0, 2, '', '', '0a0b0c0d'),
+    (2, 0, '', '', '0a0b0c0d'),
+]
 
 
 def hand_cases():
-    shown_files = [Printed(shown_file(rows), b'', 0) for rows in (ROWS, TURNED)]
-    return [
-        Case('the table in data/', [b'turn', b'table.fits'], shown_files[0].out, shown_files[1]),
-        Case('the table in data/, turned', [b'turn-back', b'table.fits'], shown_files[1].out, shown_files[0]),
-    ] + by_hand('two rows of three', 2, 3, '0a0b0c 1a1b1c', '0a1a 0b1b 0c1c') + by_hand(
-        'three rows of two, a byte after them', 3, 2, '0a0b 1a1b 2a2b', '0a1a2a 0b1b2b', 'ff') + by_hand(
-        'one row', 1, 4, '0a0b0c0d', '0a 0b 0c 0d', '0102') + by_hand(
-        'one place', 4, 1, '0a 1a 2a 3a', '0a1a2a3a', '0102') + by_hand(
-        'two rows of two', 2, 2, '0a0b 1a1b', '0a1a 0b1b') + by_hand(
-        'no rows', 0, 2, '', '', '0a0b0c0d') + by_hand('rows of no bytes', 2, 0, '', '', '0a0b0c0d')
+    pairs = [(shown_file(ROWS), shown_file(TURNED))]
+    for rows, width, *areas, after in BY_HAND:
+        header = ended(table(['%dB' % width], width, rows=rows))
+        pairs.append([header + bytes.fromhex(area + after) for area in areas])
+    made = []
+    for first, other in pairs:
+        made.append(Case('turn by hand', [b'turn', b'table.fits'], first, Printed(other, b'', 0)))
+        made.append(Case('turn-back by hand', [b'turn-back', b'table.fits'], other, Printed(first, b'', 0)))
+    return made
 
 
 def size_cases():
@@ -478,7 +481,7 @@ def named():
 def random_forms(rng, width):
     forms = []
     while width > 0:
-        size = rng.choice([1, 2, width, rng.randrange(1, width + 1)])
+        size = min(width, rng.choice([1, 2, width, rng.randrange(1, width + 1)]))
         forms.append(rng.choice(['%dB', '%dA', '%dL']) % size if len(forms) < 63 else '%dB' % width)
         width -= size if len(forms) < 64 else width
     return forms or rng.choice([[], ['0B'], ['0PE', '0A']])
@@ -575,7 +578,7 @@ def said_elsewhere(words, file, place):
     return done.stdout, words_of(*refusal, file or b'') + b'\n'
 
 
-Differs = collections.namedtuple('Differs', 'what expected said')
+Differs = collections.namedtuple('Differs', 'what expected said folder')
 
 
 def tried(program, one, expected):
@@ -585,18 +588,18 @@ def tried(program, one, expected):
     before = files_in(folder)
     said = run(program, one.words, folder)
     if said != expected:
-        return Differs('the run', expected, said)
+        return Differs('the run', expected, said, folder)
     if files_in(folder) != before:
-        return Differs('the folder', before, files_in(folder))
+        return Differs('the folder', before, files_in(folder), folder)
     elsewhere = said_elsewhere(one.words, one.file, place)
     if elsewhere and elsewhere[0] != elsewhere[1]:
-        return Differs('wrappers/words.sh', Printed(elsewhere[1], b'', 0), Printed(elsewhere[0], b'', 0))
+        return Differs('wrappers/words.sh', Printed(elsewhere[1], b'', 0), Printed(elsewhere[0], b'', 0), folder)
     if expected.status == 0:
         words = [OTHER[one.words[0]], one.words[1]]
         placed(words, said.out, folder)
         back = run(program, words, folder)
         if back != Printed(one.file, b'', 0):
-            return Differs('and back', Printed(one.file, b'', 0), back)
+            return Differs('the run back', Printed(one.file, b'', 0), back, folder)
     shutil.rmtree(folder)
     return None
 
@@ -660,7 +663,7 @@ def fifo_runs(program, folder):
         yield 'usage, a FIFO', run(program, text(words).split(), folder), Printed(b'', USAGE, 2)
     for name in ('small', 'large', 'refused', 'long'):
         # a part at a time, with a wait between the first ones
-        feed = '{ head -c 100; sleep 0.1; head -c 2881; sleep 0.1; cat; } <%s >fifo & exec "$0" turn fifo' % name
+        feed = '{ head -c 100; sleep 0.1; head -c 2881; sleep 0.1; cat; } <%s >fifo 2>&1 & exec "$0" turn fifo' % name
         yield 'a FIFO: ' + name, in_shell(program, feed, folder), wanted_in(folder, 'turn ' + name, 'fifo')
         said = in_shell(program, 'cat %s | "$0" turn /dev/stdin' % name, folder)
         yield 'standard input: ' + name, said, wanted_in(folder, 'turn ' + name, '/dev/stdin')
@@ -688,9 +691,8 @@ def file_runs(program, folder):
             yield 'no file to read', run(program, [b'turn-back', name], folder), printed([b'turn-back', name], None)
 
 
-def other_runs(program):
-    """The runs of other kinds, in a folder with these files: what for, what was written and what must be."""
-    folder = tempfile.mkdtemp()
+def fill(folder):
+    """The files of the runs of other kinds."""
     small, large = sized(3, 5, heap=2), sized(1020, 2053, heap=212)
     for name, file in (('small', small), ('large', large), ('long', bytes(LIMIT + 1)), ('locked', small),
                        ('refused', ended(without('NAXIS')))):
@@ -700,9 +702,14 @@ def other_runs(program):
     os.mkfifo(os.path.join(folder, 'fifo'))
     os.symlink('small', os.path.join(folder, 'link'))
     os.symlink('nowhere', os.path.join(folder, 'dangling'))
-    for kind in (pipe_runs, full_runs, stack_runs, fifo_runs, file_runs):
-        yield from kind(program, folder)
-    shutil.rmtree(folder)
+
+
+def other_runs(program):
+    """The runs of other kinds: what each is for, what was written and what must be."""
+    with tempfile.TemporaryDirectory() as folder:
+        fill(folder)
+        for kind in (pipe_runs, full_runs, stack_runs, fifo_runs, file_runs):
+            yield from kind(program, folder)
 
 
 # ---- the check ----
@@ -730,6 +737,8 @@ def tell(why, words, found):
         print('%s: %s' % (name, shortened(of) if isinstance(of, Printed) else of))
     if isinstance(found.said, Printed) and found.said.out != found.expected.out:
         print('standard output differs from byte %d on' % first_difference(found.said.out, found.expected.out))
+    if found.folder:
+        print('its files are in %s' % found.folder)
 
 
 def sort_of(wanted):
@@ -747,7 +756,7 @@ def differences(program, seeds, counts):
         yield one.why, one.words, tried(program, one, wanted)
     for why, said, wanted in other_runs(program):
         counts['of other kinds'] += 1
-        yield why, [], None if said == wanted else Differs('the run', wanted, said)
+        yield why, [], None if said == wanted else Differs('the run', wanted, said, None)
 
 
 def check(program, seeds):
