@@ -51,14 +51,15 @@ USAGE = b'''\
 usage: coentrift turn TABLE
        coentrift turn-back TABLE
 
-turn writes the header of TABLE as it is, then its data turned: byte p of row r at
-p x NAXIS2 + r, and as they are the bytes after the last row. turn-back writes what
-turn was given.
+Both write to standard output the header of TABLE as it is, then its data. turn puts
+byte p of row r, both counted from 0, at p x NAXIS2 + r, and leaves the bytes after
+the last row as they are; turn-back takes such a file and puts each byte back.
 TABLE is the file of a binary table extension alone, its header and then its data,
-of 2,097,152 bytes at most. docs/FORMAT.md, sections 18 and 19, says more.
+of 2,097,152 bytes at most. An argument has at most 4,095 bytes, and case counts.
+docs/FORMAT.md, sections 18 and 19, says more.
 
 Status: 0 all was written; 1 the table was refused or is too long, and standard
-error says why; 2 the arguments are wrong, or the program could not be run.
+error says why; 2 the arguments are wrong, or the output could not be written.
 '''
 
 
@@ -139,7 +140,7 @@ def is_utf8(name):
 
 
 def shown(name):
-    return b"'%s'" % name if is_utf8(name) else b'the file, whose name is not UTF-8'
+    return b"'%s'" % name
 
 
 def refusal_of(file):
@@ -430,7 +431,6 @@ def unread(name):
 
 def name_cases():
     good, bad, long = sized(3, 5, heap=2), ended(without('NAXIS')), bytes(LIMIT + 1)
-    other = unread(b'the file, whose name is not UTF-8')
     made = []
     for name in NAMES:
         made += ways('a name', good, name=name) + ways('a name whose file is refused', bad, name=name)
@@ -441,7 +441,7 @@ def name_cases():
     for name in NAMES + NO_FILE:
         made += ways('a name whose file is missing', None, unread(b"'" + name + b"'"), name)
     for name, file in itertools.product(NO_UTF8, (None, GOOD_FILE)):
-        made += ways('a name that is not UTF-8', file, other, name)
+        made += ways('a name that is not UTF-8', file, unread(b"'" + name + b"'"), name)
     return made
 
 
@@ -635,14 +635,14 @@ def pipe_runs(program, folder):
         os.close(reader)
         said = run(program, text(words).split(), folder, stdout=writer, restore_signals=restored)
         os.close(writer)
-        yield 'a pipe that nobody reads: ' + words, said, Printed(b'', b'', 141)
+        yield 'a pipe that nobody reads: ' + words, said, Printed(b'', wanted_in(folder, words).err, 141)
 
 
 def full_runs(program, folder):
     """Standard output or standard error takes nothing."""
     for words in ('turn small', 'turn-back large', 'turn refused', 'turn missing', 'turn long', 'turn', ''):
         wanted = wanted_in(folder, words)
-        no_output = Printed(b'', b'coentrift: cannot write the output\n', 2) if wanted.out else wanted
+        no_output = Printed(b'', wanted.err + b'coentrift: cannot write the output\n', 2) if wanted.out else wanted
         no_error = wanted._replace(err=b'')
         for to, said in (('>&-', no_output), ('2>&-', no_error), ('>/dev/full', no_output), ('2>/dev/full', no_error)):
             if '/dev' not in to or os.path.exists('/dev/full'):
@@ -670,10 +670,10 @@ def fifo_runs(program, folder):
 
 
 def file_runs(program, folder):
-    """Output to a file or with the errors, a table through a link, a device, no file to read."""
+    """Output to a file or after the errors, a table through a link, a device, no file to read."""
     refused_too, wanted = wanted_in(folder, 'turn refused'), wanted_in(folder, 'turn small')
     said = in_shell(program, '"$0" turn refused 2>&1', folder)
-    yield 'output, then the errors', said, Printed(refused_too.out + refused_too.err, b'', 1)
+    yield 'the errors, then the output', said, Printed(refused_too.err + refused_too.out, b'', 1)
     said = in_shell(program, '"$0" turn small >out && cat out', folder)
     yield 'output to a file', said, wanted
     said = in_shell(program, 'printf before >out; "$0" turn small >>out && cat out', folder)
