@@ -1,6 +1,6 @@
 -- The line of a refusal, in two parts.
 -- Assumes nothing.
-use Rattle.std.proofs.Common.{ℕ, ◌≡◌, List, [], ◌∷◌, ◌++◌, codes, refl, sym, ap, ◌∙◌}
+use Rattle.std.proofs.Common.{ℕ, ◌≡◌, List, [], ◌∷◌, ◌++◌, refl, sym, ap, ◌∙◌}
 use mathlib.Core.List.{append_assoc}
 use Rattle.std.specs.List.{concat}
 
