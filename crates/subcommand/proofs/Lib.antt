@@ -4,3 +4,5 @@ pub mod Empty
 pub mod Cut
 pub mod Whole
 pub mod Pieces
+pub mod Front
+pub mod Back
