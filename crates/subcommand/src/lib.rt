@@ -1,5 +1,5 @@
-// What the program `coentrift` does: what its arguments ask for, and what it prints for them and for the files that they
-// name.
+// What the program `coentrift` does: what its arguments ask for, and what it prints for them and for the files that
+// they name.
 #![tactic(auto)]
 
 pub mod answers;
