@@ -4,7 +4,7 @@
 From the repository's root:
 
     tests/coentrift.py make
-        writes args, data/table.fits and stdout of crates/coentrift
+        writes args, data/archive.fits and stdout of crates/coentrift
     tests/coentrift.py check PROGRAM [--seeds A B]
         runs the built program, crates/coentrift/out/coentrift, on every case below and on random ones, one for each
         number from A to B (0 to 999 if not given)
@@ -55,11 +55,12 @@ Both write to standard output the header of TABLE as it is, then its data. turn 
 byte p of row r, both counted from 0, at p x NAXIS2 + r, and leaves the bytes after
 the last row as they are; turn-back takes such a file and puts each byte back.
 TABLE is the file of a binary table extension alone, its header and then its data,
-of 2,097,152 bytes at most. An argument has at most 4,095 bytes, and case counts.
-docs/FORMAT.md, sections 18 and 19, says more.
+of 2,097,152 bytes at most. One that cannot be read counts as empty. An argument has
+at most 4,095 bytes, and case counts. docs/FORMAT.md, sections 18 and 19, says more.
 
 Status: 0 all was written; 1 the table was refused or is too long, and standard
-error says why; 2 the arguments are wrong, or the output could not be written.
+error says why; 2 the arguments are wrong, memory is lacking, or the output cannot
+be written; 141 whoever read the output has closed it.
 '''
 
 
@@ -234,7 +235,7 @@ def shown_file(rows):
 def make():
     crate = os.path.join(ROOT, 'crates', 'coentrift')
     os.makedirs(os.path.join(crate, 'data'), exist_ok=True)
-    for name, content in (('args', b'turn\ntable.fits\n'), ('data/table.fits', shown_file(ROWS)),
+    for name, content in (('args', b'turn\narchive.fits\n'), ('data/archive.fits', shown_file(ROWS)),
                           ('stdout', shown_file(TURNED))):
         with open(os.path.join(crate, name), 'wb') as file:
             file.write(content)

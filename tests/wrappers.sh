@@ -445,7 +445,7 @@ unset RT_STATUS
 : >"$RT_CALLED"
 cp "$work/turned.fits" "$work/want"
 turns "$work/rt:$bare" 0 "coentrift: $older$building"
-called="run -- turn $root/crates/coentrift/data/table.fits"
+called="run -- turn $root/crates/coentrift/data/archive.fits"
 check 'rt was asked for coentrift' "$(hold [ "$(cat "$RT_CALLED")" = "$called" ])"
 turns "$bare" 0 ''
 sleep 1

@@ -2,9 +2,11 @@
 // says: here the arguments and the file are read and the answer is written.
 #![tactic(auto)]
 
-ghost use Rattle.std.specs.Prelude.{◌≡◌, ◌+◌, IfOk, length, map};
+ghost use Rattle.std.specs.Prelude.{◌≡◌, ◌+◌, ◌++◌, IfOk, length, map};
+ghost use Rattle.std.specs.List.{concat};
 ghost use Rattle.std.specs.Vec.{vec_items};
 ghost use Rattle.subcommand.specs.Arguments.{asked, asked_by};
+ghost use Rattle.subcommand.specs.Message.{message_text};
 ghost use Rattle.subcommand.specs.Printed.{table_limit};
 
 use std::alloc::AllocError;
@@ -17,9 +19,9 @@ use subcommand::answers::{Answer, OUT_ROOM, TABLE_LIMIT};
 use subcommand::message::{Digits, Message};
 use subcommand::{ARGUMENT_LIMIT, Subcommand};
 
-// The status where the program could not be run, and where whoever read its output has closed it: a shell gives the
-// second to a program that is ended by that signal.
-const NOT_RUN: u8 = 2;
+// The status where memory is lacking or the output cannot be written, and where whoever read the output has closed it: a
+// shell gives the second to a program that the signal of a closed pipe ends.
+const FAILED: u8 = 2;
 
 const PIPE_CLOSED: u8 = 141;
 
@@ -49,7 +51,7 @@ fn parse<'a>(rt: &HostRuntime, args: &'a [Vec<u8>]) -> Result<Option<Subcommand<
 }
 
 // Buffers for a table's file, with a byte more by which a longer one is told, and for what is written.
-fn file_buffer() -> [u8; TABLE_LIMIT + 1]
+fn table_buffer() -> [u8; TABLE_LIMIT + 1]
     ensures { length result ≡ table_limit + 1 }
 {
     [0; TABLE_LIMIT + 1]
@@ -59,25 +61,31 @@ fn out_buffer() -> [u8; OUT_ROOM] {
     [0; OUT_ROOM]
 }
 
-// Writes a message to standard error, in one piece.
-fn say(rt: &HostRuntime, message: &Message) -> Result<(), AllocError> {
-    let mut text = Vec::new(rt.alloc());
-    for piece in message
-        .note
-        .iter()
-        .chain(message.refusal.iter())
-        .chain(message.words.iter())
-    {
+// Puts some pieces of a message at the end of a text.
+fn push_pieces(text: &mut Vec<u8>, pieces: &[&[u8]]) -> Result<(), AllocError>
+    ensures { IfOk result (λ _. vec_items text.new ≡ vec_items text.old ++ concat (map (λ p. p.now) pieces.now)) }
+{
+    for piece in pieces {
         text.extend_from_slice(piece)?;
     }
-    text.extend_from_slice(message.end)?;
-    let _ = rt.stderr().write_all(&text);
     Ok(())
+}
+
+// A message as one text.
+fn join(rt: &HostRuntime, message: &Message) -> Result<Vec<u8>, AllocError>
+    ensures { IfOk result (λ text. vec_items text ≡ message_text message.now) }
+{
+    let mut text = Vec::new(rt.alloc());
+    push_pieces(&mut text, &message.note)?;
+    push_pieces(&mut text, &message.refusal)?;
+    push_pieces(&mut text, &message.words)?;
+    text.extend_from_slice(message.end)?;
+    Ok(text)
 }
 
 // Reads the file that is named, says what there is to say and writes the answer. The status.
 fn run(rt: &HostRuntime, asked: Option<Subcommand>) -> Result<u8, AllocError> {
-    let mut buffer = file_buffer();
+    let mut buffer = table_buffer();
     let file = asked.and_then(|named| console::load(rt, named.table(), &mut buffer));
     let mut out = out_buffer();
     let mut digits = Digits::new();
@@ -86,18 +94,19 @@ fn run(rt: &HostRuntime, asked: Option<Subcommand>) -> Result<u8, AllocError> {
         message,
         status,
     } = subcommand::answers::respond(asked, file, &mut out, &mut digits);
-    say(rt, &message)?;
+    let text = join(rt, &message)?;
+    let _ = rt.stderr().write_all(&text);
     if let Err(error) = console::write_text(rt, &out, len) {
         if error.kind() == io::ErrorKind::BrokenPipe {
             return Ok(PIPE_CLOSED);
         }
         let _ = eprint!(rt; "coentrift: cannot write the output\n");
-        return Ok(NOT_RUN);
+        return Ok(FAILED);
     }
     Ok(status)
 }
 
-// All of it, unless there is no memory for the arguments.
+// All of it, unless there is no memory for the arguments or the message.
 fn start(rt: &HostRuntime) -> Result<u8, AllocError> {
     let Some(args) = read_arguments(rt)? else {
         return run(rt, None);
@@ -109,7 +118,7 @@ fn start(rt: &HostRuntime) -> Result<u8, AllocError> {
 fn main(rt: HostRuntime) -> ExitCode {
     let Ok(status) = start(&rt) else {
         let _ = eprint!(rt; "coentrift: out of memory\n");
-        return ExitCode::from(NOT_RUN);
+        return ExitCode::from(FAILED);
     };
     ExitCode::from(status)
 }

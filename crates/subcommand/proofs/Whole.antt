@@ -7,12 +7,12 @@ use Rattle.std.specs.List.{list_any}
 use Rattle.subcommand.specs.declared.Subcommand.{Subcommand}
 use Rattle.subcommand.specs.declared.Subcommand.TheVariants as S
 use Rattle.subcommand.specs.declared.answers.Answer.{Answer}
-use Rattle.subcommand.specs.Arguments.{too_long, asked, asked_by, table_of}
+use Rattle.subcommand.specs.Arguments.{long_argument, asked, asked_by, table_of}
 use Rattle.subcommand.specs.Printed.{printed, printed_by, run}
 use Rattle.subcommand.proofs.Cut.{cut, run_cut}
 
 -- arguments of which one is too long, which `parse` is not given, are wrong whatever the others are
-pub long_wrong : (args : List (List ℕ)) → list_any too_long args ≡ true → asked_by None ≡ asked args
+pub long_wrong : (args : List (List ℕ)) → list_any long_argument args ≡ true → asked_by None ≡ asked args
 unfolding asked
 long_wrong args e = rw e refl
 

@@ -13,8 +13,8 @@ pub data Asked : Type 0 where
   wrong : Asked
 
 -- an argument is too long above 4,095 bytes
-abbrev pub too_long : List ℕ → Bool
-too_long a = ltb 4095 (length a)
+abbrev pub long_argument : List ℕ → Bool
+long_argument a = ltb 4095 (length a)
 
 -- a single argument
 abbrev pub single : List (List ℕ) → Option (List ℕ)
@@ -40,7 +40,7 @@ by_first (name ∷ args) = by_name name args
 
 -- what all arguments ask for
 unfoldable pub asked : List (List ℕ) → Asked
-asked args = cond (list_any too_long args) wrong (by_first args)
+asked args = cond (list_any long_argument args) wrong (by_first args)
 
 -- what the code's answer says
 abbrev pub asked_by : Option Subcommand → Asked

@@ -18,19 +18,20 @@ usage_text =
     ++ codes "byte p of row r, both counted from 0, at p x NAXIS2 + r, and leaves the bytes after\n"
     ++ codes "the last row as they are; turn-back takes such a file and puts each byte back.\n"
     ++ codes "TABLE is the file of a binary table extension alone, its header and then its data,\n"
-    ++ codes "of 2,097,152 bytes at most. An argument has at most 4,095 bytes, and case counts.\n"
-    ++ codes "docs/FORMAT.md, sections 18 and 19, says more.\n"
+    ++ codes "of 2,097,152 bytes at most. One that cannot be read counts as empty. An argument has\n"
+    ++ codes "at most 4,095 bytes, and case counts. docs/FORMAT.md, sections 18 and 19, says more.\n"
     ++ codes "\n"
     ++ codes "Status: 0 all was written; 1 the table was refused or is too long, and standard\n"
-    ++ codes "error says why; 2 the arguments are wrong, or the output could not be written.\n"
+    ++ codes "error says why; 2 the arguments are wrong, memory is lacking, or the output cannot\n"
+    ++ codes "be written; 141 whoever read the output has closed it.\n"
 
 -- a file that is missing or cannot be read, by its name
-abbrev pub unreadable_text : List ℕ → List ℕ
-unreadable_text name = codes "coentrift: cannot read '" ++ name ++ codes "', which counts as empty\n"
+abbrev pub unread_text : List ℕ → List ℕ
+unread_text name = codes "coentrift: cannot read '" ++ name ++ codes "', which counts as empty\n"
 
 -- one that is longer than the program takes
-abbrev pub too_long_text : List ℕ → List ℕ
-too_long_text name = codes "coentrift: '" ++ name ++ codes "' is longer than 2,097,152 bytes\n"
+abbrev pub long_file_text : List ℕ → List ℕ
+long_file_text name = codes "coentrift: '" ++ name ++ codes "' is longer than 2,097,152 bytes\n"
 
 -- a refusal of a file's table, in words
 abbrev pub refused_text : Refusal → List ℕ → List ℕ

@@ -10,7 +10,7 @@ use Rattle.listing.specs.Lines.{refused_line}
 use Rattle.turn.specs.Turn as T
 use Rattle.subcommand.specs.declared.answers.Answer.{Answer}
 use Rattle.subcommand.specs.Arguments.{Asked, turn, turn_back, wrong, asked}
-use Rattle.subcommand.specs.Message.{usage_text, too_long_text, unreadable_text, refused_text, message_text}
+use Rattle.subcommand.specs.Message.{usage_text, long_file_text, unread_text, refused_text, message_text}
 
 -- standard output, standard error and the status
 pub record Printed : Type 0 where
@@ -37,10 +37,10 @@ of_file made file = by_entry made file (entry (header_of file) (data_of file))
 -- by the file as it was read; one that cannot be read counts as empty
 abbrev pub of_table : (BinTable → List ℕ → List ℕ) → List ℕ → Option (List ℕ) → Printed
 of_table made name (Some file) =
-    cond (ltb table_limit (length file)) (record { out = []; err = too_long_text name; status = 1 }) (of_file made file)
+    cond (ltb table_limit (length file)) (record { out = []; err = long_file_text name; status = 1 }) (of_file made file)
 of_table made name None =
     let empty = of_file made [] in
-    record { out = empty.out; err = unreadable_text name ++ empty.err; status = empty.status }
+    record { out = empty.out; err = unread_text name ++ empty.err; status = empty.status }
 
 -- the header as it is, then the data turned, or turned back
 abbrev pub turned_file : BinTable → List ℕ → List ℕ

@@ -123,14 +123,14 @@ fn of_table<'a>(
         let refusal = Refusal::BadLength;
         return Answer {
             len: put_refusal(refusal, out),
-            message: message::unreadable(name, refusal, digits),
+            message: message::unread(name, refusal, digits),
             status: REFUSED,
         };
     };
     if bytes.len() > TABLE_LIMIT {
         return Answer {
             len: 0,
-            message: message::too_long(name),
+            message: message::long_file(name),
             status: REFUSED,
         };
     }

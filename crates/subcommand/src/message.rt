@@ -1,7 +1,7 @@
 // What the program says on standard error.
 ghost use Rattle.std.specs.Prelude.{◌≡◌, [], ◌++◌, map};
 ghost use Rattle.std.specs.List.{concat};
-ghost use Rattle.subcommand.specs.Message.{message_text, usage_text, too_long_text, refused_text, unreadable_text};
+ghost use Rattle.subcommand.specs.Message.{message_text, usage_text, long_file_text, refused_text, unread_text};
 
 use itoa::Buffer;
 use refusal::Refusal;
@@ -40,11 +40,12 @@ Both write to standard output the header of TABLE as it is, then its data. turn 
 byte p of row r, both counted from 0, at p x NAXIS2 + r, and leaves the bytes after
 the last row as they are; turn-back takes such a file and puts each byte back.
 TABLE is the file of a binary table extension alone, its header and then its data,
-of 2,097,152 bytes at most. An argument has at most 4,095 bytes, and case counts.
-docs/FORMAT.md, sections 18 and 19, says more.
+of 2,097,152 bytes at most. One that cannot be read counts as empty. An argument has
+at most 4,095 bytes, and case counts. docs/FORMAT.md, sections 18 and 19, says more.
 
 Status: 0 all was written; 1 the table was refused or is too long, and standard
-error says why; 2 the arguments are wrong, or the output could not be written.
+error says why; 2 the arguments are wrong, memory is lacking, or the output cannot
+be written; 141 whoever read the output has closed it.
 ";
 
 // A message that is a note alone.
@@ -75,13 +76,13 @@ pub fn usage() -> Message<'static>
 }
 
 // A file is longer than the program takes.
-pub fn too_long<'a>(name: &'a [u8]) -> Message<'a>
-    ensures { message_text result ≡ too_long_text name.now }
+pub fn long_file<'a>(name: &'a [u8]) -> Message<'a>
+    ensures { message_text result ≡ long_file_text name.now }
 {
     noted([b"coentrift: '", name, b"' is longer than 2,097,152 bytes\n"])
 }
 
-// The same before a refusal of a file's table.
+// A note, and after it a refusal of a file's table.
 fn noted_refusal<'a>(
     note: [&'a [u8]; 3],
     refusal: Refusal,
@@ -108,8 +109,8 @@ pub fn refused<'a>(refusal: Refusal, file: &'a [u8], digits: &'a mut Digits) -> 
 }
 
 // A file that cannot be read, and the refusal of an empty one.
-pub fn unreadable<'a>(name: &'a [u8], refusal: Refusal, digits: &'a mut Digits) -> Message<'a>
-    ensures { message_text result ≡ unreadable_text name.now ++ refused_text refusal [] }
+pub fn unread<'a>(name: &'a [u8], refusal: Refusal, digits: &'a mut Digits) -> Message<'a>
+    ensures { message_text result ≡ unread_text name.now ++ refused_text refusal [] }
 {
     let note = [
         b"coentrift: cannot read '",

@@ -41,11 +41,11 @@ fn length(file: &[u8]) -> &[u8]
 }
 
 // The words of refusal 4.
-fn missing<'a>(file: &'a [u8], n: usize, place: &'a [u8]) -> [&'a [u8]; CAUSE_PIECES]
+fn missing_name<'a>(file: &'a [u8], n: usize, place: &'a [u8]) -> [&'a [u8]; CAUSE_PIECES]
     ensures { concat (map (λ p. p.now) result) ≡ missing_text place.now file.now n }
 {
     if n == 0 {
-        return three(required::missing(file), b"", b" is missing");
+        return three(required::name(file), b"", b" is missing");
     }
     three(b"TFORM", place, b" is missing")
 }
@@ -58,7 +58,7 @@ pub fn cause<'a>(refusal: Refusal, file: &'a [u8], place: &'a [u8]) -> [&'a [u8]
         Refusal::BadLength => one(length(file)),
         Refusal::MissingEnd => one(b"no record is END, so the header has no end"),
         Refusal::RepeatedName { record } => names::repeated(card::name(file, record), place),
-        Refusal::MissingName { n } => missing(file, n, place),
+        Refusal::MissingName { n } => missing_name(file, n, place),
         Refusal::UnreadableValue { record } => names::unreadable(card::name(file, record), place),
         Refusal::InvalidValue { record } => names::invalid(card::name(file, record), place),
         Refusal::AboveLimit { record } => names::above_limit(card::name(file, record), place),

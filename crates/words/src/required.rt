@@ -39,7 +39,7 @@ fn first_missing(header: &[u8]) -> Option<Keyword>
 }
 
 // The first required name that a file does not have, as text.
-pub fn missing(file: &[u8]) -> &[u8]
+pub fn name(file: &[u8]) -> &[u8]
     ensures { result.now ≡ required_text (first_missing (header_of file.now)) }
 {
     match first_missing(header::split_file(file).0) {
