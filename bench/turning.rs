@@ -6,9 +6,11 @@ use crate::tables::Table;
 use std::hint::black_box;
 
 /// Rows and bytes a row, 64 MB in all.
-const SHAPES: [(usize, usize); 8] = [
+const SHAPES: [(usize, usize); 10] = [
     (64, 1_048_576),
     (1_024, 65_536),
+    (4_096, 16_384),
+    (8_192, 8_192),
     (65_536, 1_024),
     (409_600, 164),
     (2_097_152, 32),
