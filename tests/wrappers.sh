@@ -444,7 +444,11 @@ coentrift: the build failed"
 unset RT_STATUS
 : >"$RT_CALLED"
 cp "$work/turned.fits" "$work/want"
+mkdir "$work/elsewhere"
+export room="$work/elsewhere"
 turns "$work/rt:$bare" 0 "coentrift: $older$building"
+unset room
+check 'a variable of the caller is no folder to build in' "$(hold [ -z "$(ls "$work/elsewhere")" ])"
 called="run -- turn $root/crates/coentrift/data/archive.fits"
 check 'rt was asked for coentrift' "$(hold [ "$(cat "$RT_CALLED")" = "$called" ])"
 turns "$bare" 0 ''
