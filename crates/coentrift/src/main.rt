@@ -19,8 +19,8 @@ use subcommand::answers::{Answer, OUT_ROOM, TABLE_LIMIT};
 use subcommand::message::{Digits, Message};
 use subcommand::{ARGUMENT_LIMIT, Subcommand};
 
-// The status where memory is lacking or the output cannot be written, and where whoever read the output has closed it: a
-// shell gives the second to a program that the signal of a closed pipe ends.
+// The status where memory is lacking or the output cannot be written, and where whoever read the output has closed it:
+// a shell gives the second to a program that the signal of a closed pipe ends.
 const FAILED: u8 = 2;
 
 const PIPE_CLOSED: u8 = 141;

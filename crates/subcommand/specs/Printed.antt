@@ -37,7 +37,8 @@ of_file made file = by_entry made file (entry (header_of file) (data_of file))
 -- by the file as it was read; one that cannot be read counts as empty
 abbrev pub of_table : (BinTable → List ℕ → List ℕ) → List ℕ → Option (List ℕ) → Printed
 of_table made name (Some file) =
-    cond (ltb table_limit (length file)) (record { out = []; err = long_file_text name; status = 1 }) (of_file made file)
+    cond (ltb table_limit (length file)) (record { out = []; err = long_file_text name; status = 1 })
+    (of_file made file)
 of_table made name None =
     let empty = of_file made [] in
     record { out = empty.out; err = unread_text name ++ empty.err; status = empty.status }

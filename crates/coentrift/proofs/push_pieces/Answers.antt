@@ -25,6 +25,7 @@ loop-piece-preserved c =
     let i = c.loop-piece.piece-index in
     let none : Bor (List ℕ) = record { ref_ptr = (0, 0); now = [] } in
     let p = (get_or ps i none).now in
-    let e : c.extend_from_slice.new.self.items ≡ c.loop-piece.text.items ++ p = c.in_ok-extend_from_slice.ensures.items in
+    let e : c.extend_from_slice.new.self.items ≡ c.loop-piece.text.items ++ p =
+    c.in_ok-extend_from_slice.ensures.items in
     e ∙ ap (λ (t : List ℕ). t ++ p) c.loop-piece.invariant ∙ append_assoc old (first ps i) p
     ∙ ap (λ (t : List ℕ). old ++ t) (sym (one_more ps i none c.loop-piece-test.true))
