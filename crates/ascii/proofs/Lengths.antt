@@ -1,12 +1,14 @@
 -- The length of a number as text, and texts that are put one after the other into a buffer.
 -- Assumes nothing.
-use Prim.Native.Nat.{ℕ, zero, suc, ◌+◌, ◌-◌, ◌/◌, ◌≤◌}
+use Prim.Native.Nat.{ℕ, zero, suc, ◌+◌, ◌-◌, ◌*◌, ◌/◌, ◌^◌, ◌≤◌, ◌<◌}
 use mathlib.Core.Path.{◌≡◌, refl, ap, sym, ◌∙◌}
 use mathlib.Core.List.{List, ◌++◌, append_assoc}
 use native.Mathlib.Omega.{arith}
+use native.Mathlib.Nat.{pow-suc}
 use lib.ListN.{length, take, drop, length-append, length-drop}
 use lib.Seq.{take_at, drop_at, drop-drop, length-take-le}
 use lib.Dec.{ltb}
+use borrow.Author.Tests.{ltb-false}
 use borrow.Rule.Slice.PartMut.{put_mid}
 use Rattle.ascii.proofs.Cases.{by_test}
 use Rattle.ascii.specs.Number.{decimal_in, decimal_text}
@@ -23,6 +25,21 @@ in_length (suc k) n =
 
 pub decimal_length : (n : ℕ) → length (decimal_text n) ≤ 20
 decimal_length n = in_length 20 n
+
+-- and a number below 10 ^ k has at most k digits, where k is not 0
+pub few_digits : (j k n : ℕ) → n < 10 ^ k → 0 < k → length (decimal_in j n) ≤ k
+unfolding decimal_in
+few_digits zero k n h p = omega arith
+few_digits (suc j) zero n h p = absurd (omega arith)
+few_digits (suc j) (suc zero) n h p =
+    by_test (λ (l : List ℕ). length l ≤ 1) (ltb n 10)
+    (λ t. omega arith)
+    (λ t. absurd (omega (arith, ltb-false n 10 t)))
+few_digits (suc j) (suc (suc k)) n h p =
+    let e : 10 ^ suc (suc k) ≡ 10 ^ suc k * 10 = pow-suc 10 (suc k) in
+    by_test (λ (l : List ℕ). length l ≤ suc (suc k)) (ltb n 10)
+    (λ t. omega arith)
+    (λ t. simp length-append (omega (arith, few_digits j (suc k) (n / 10) (omega (arith, e)) (omega arith))))
 
 -- ---- what is put into a buffer
 

@@ -27,7 +27,10 @@ pub enum Refusal {
     NoColumn,
     NoSuchRow { row: usize },
     ArrayOutsideHeap { column: usize },
-    ShortList { cells: u64 },
+    // What was lent is too short for what is needed: a list for the cells of a row read, a page for its bytes.
+    ShortList { needed: u64 },
+    // The column is missing or not of a type that the call takes, or there is no such edition.
+    UnsuitableColumn,
     // That of turning: the two buffers differ in length, or are too short.
     BufferMismatch,
 }
@@ -61,7 +64,8 @@ pub fn number(refusal: Refusal) -> u64
         Refusal::NoColumn => 11,
         Refusal::NoSuchRow { row: _ } => 12,
         Refusal::ArrayOutsideHeap { column: _ } => 13,
-        Refusal::ShortList { cells: _ } => 14,
+        Refusal::ShortList { needed: _ } => 14,
+        Refusal::UnsuitableColumn => 15,
         Refusal::BufferMismatch => 22,
     }
 }
@@ -84,7 +88,8 @@ pub fn place(refusal: Refusal) -> u64
         Refusal::NoColumn => 0,
         Refusal::NoSuchRow { row } => row as u64,
         Refusal::ArrayOutsideHeap { column } => column as u64,
-        Refusal::ShortList { cells } => cells,
+        Refusal::ShortList { needed } => needed,
+        Refusal::UnsuitableColumn => 0,
         Refusal::BufferMismatch => 0,
     }
 }

@@ -175,7 +175,7 @@ fn rest_plan(row: &TableRow, rest: Result<u64, Refusal>, room: usize) -> RowPlan
         Err(refusal) => no_plan(row.cursor, Err(refusal)),
         Ok(n) => {
             if (room as u64) < n {
-                return no_plan(row.cursor, Err(Refusal::ShortList { cells: n }));
+                return no_plan(row.cursor, Err(Refusal::ShortList { needed: n }));
             }
             let stepped = Stepped {
                 cursor: at_next_row(row.cursor, n),

@@ -14,6 +14,9 @@ const NO_FORM: &[u8] = b" is no form that can be read: \
 const NO_COLUMN: &[u8] = b"no column is left in the choice: the table has none, \
     or none of the chosen indexes, counted from 0, is one of its columns";
 
+const NO_SUITABLE_COLUMN: &[u8] = b"the column is missing or not of a type that is taken here, \
+    or there is no such edition";
+
 // A text of one piece.
 fn one(text: &[u8]) -> [&[u8]; CAUSE_PIECES]
     ensures { concat (map (λ p. p.now) result) ≡ text.now }
@@ -78,11 +81,12 @@ pub fn cause<'a>(refusal: Refusal, file: &'a [u8], place: &'a [u8]) -> [&'a [u8]
             place,
             b", counted from 0, ends past the heap",
         ),
-        Refusal::ShortList { cells: _ } => three(
+        Refusal::ShortList { needed: _ } => three(
             b"the list is shorter than what is left of the row, ",
             place,
             b" cells",
         ),
+        Refusal::UnsuitableColumn => one(NO_SUITABLE_COLUMN),
         Refusal::BufferMismatch => {
             one(b"the two buffers differ in length, or are shorter than the table")
         }
