@@ -1,0 +1,38 @@
+-- How many digits a number has, by the powers of ten about it.
+-- Assumes nothing.
+use Prim.Native.Nat.{ℕ, zero, suc, ◌*◌, ◌/◌, ◌^◌, ◌≤◌, ◌<◌}
+use native.Mathlib.Omega.{arith}
+use native.Mathlib.Nat.{pow-suc, one-le-pow}
+use mathlib.Core.Path.{◌≡◌}
+use mathlib.Core.List.{List}
+use lib.ListN.{length, length-append}
+use lib.Dec.{ltb, lit<}
+use borrow.Author.Tests.{lt-ltb, le-ltb}
+use Rattle.ascii.specs.Number.{decimal_in}
+use Rattle.ascii.proofs.Cases.{either, by_test}
+
+-- with k + 1 digits or more allowed, a number below 10 ^ (k + 1) has the same text
+pub decimal_enough : (k j n : ℕ) → n < 10 ^ suc k → k ≤ j → decimal_in (suc j) n ≡ decimal_in (suc k) n
+unfolding decimal_in
+decimal_enough zero j n h l = rw (lt-ltb n 10 (omega arith))
+decimal_enough (suc k) zero n h l = absurd (omega arith)
+decimal_enough (suc k) (suc j) n h l =
+    let e : 10 ^ suc (suc k) ≡ 10 ^ suc k * 10 = pow-suc 10 (suc k) in
+    either (ltb n 10) (λ t. rw t) (λ t. rw (t, decimal_enough k j (n / 10) (omega arith) (omega arith)))
+
+-- one digit or more
+pub some_digit : (k n : ℕ) → 0 < length (decimal_in (suc k) n)
+unfolding decimal_in
+some_digit k n =
+    by_test (λ (s : List ℕ). 0 < length s) (ltb n 10) (λ t. omega arith) (λ t. simp length-append (omega arith))
+
+-- more than j digits, where as many are allowed
+pub digits_least : (j k n : ℕ) → 10 ^ j ≤ n → j < k → j < length (decimal_in k n)
+unfolding decimal_in
+digits_least j zero n h l = absurd (omega arith)
+digits_least zero (suc k) n h l = some_digit k n
+digits_least (suc j) (suc k) n h l =
+    let e : 10 ^ suc j ≡ 10 ^ j * 10 = pow-suc 10 j in
+    let p : 1 ≤ 10 ^ j = one-le-pow j 10 (lit< tt) in
+    let r = digits_least j k (n / 10) (omega arith) (omega arith) in
+    rw (le-ltb n 10 (omega arith)) (simp length-append (omega arith))

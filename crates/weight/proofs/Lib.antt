@@ -1,0 +1,9 @@
+pub mod Rounded
+pub mod Digits
+pub mod Long
+pub mod Bits
+pub mod Reading
+pub mod Stars
+pub mod Ties
+pub mod Width
+pub mod Examples

@@ -1,0 +1,51 @@
+-- The text of a weight is ten stars exactly where the weight has no text of ten places.
+-- Assumes nothing.
+use Prim.Native.Nat.{ℕ, ◌/◌, ◌^◌}
+use mathlib.Core.Path.{◌≡◌, refl, sym, ap, ◌∙◌}
+use mathlib.Core.Bool.{Bool, false, true≢false, and-false}
+use mathlib.Core.List.{List, ◌∷◌, ◌++◌, append_assoc}
+use lib.ListN.{length}
+use lib.Dec.{eqb, leb}
+use borrow.Author.Tests.{leb-false, lt-leb}
+use Rattle.std.specs.Prelude.{Float}
+use Rattle.std.specs.Float.{nan, inf, fin}
+use Rattle.std.specs.List.{list_all}
+use Rattle.std.proofs.lemmas.List.Folds.{list_all-append}
+use Rattle.ascii.specs.Number.{decimal_in}
+use Rattle.ascii.proofs.Cases.{either}
+use Rattle.weight.specs.declared.Edition.{Edition}
+use Rattle.weight.specs.Weight.{decimals, sign_text, last_digits, stars, units_of, units_text, weight_text}
+use Rattle.weight.specs.Reading.{Unwritable}
+
+abbrev star : ℕ → Bool
+star b = eqb b 42
+
+-- a text with a point is not stars only
+pointed : (xs ys : List ℕ) → list_all star (xs ++ (46 ∷ ys)) ≡ false
+pointed xs ys = list_all-append star xs (46 ∷ ys) ∙ and-false (list_all star xs)
+
+not_stars : (ed : Edition) (s : Bool) (units : ℕ) → units_text ed s units ≡ stars → ⊥
+unfolding units_text stars
+not_stars ed s units e =
+    let whole = decimal_in 39 (units / 10 ^ decimals ed) in
+    let fraction = last_digits (decimals ed) units in
+    let p : list_all star (sign_text s units ++ (whole ++ (46 ∷ fraction))) ≡ false =
+    ap (list_all star) (sym (append_assoc (sign_text s units) whole (46 ∷ fraction)))
+    ∙ pointed (sign_text s units ++ whole) fraction in
+    true≢false (sym (ap (list_all star) e) ∙ p)
+
+pub stars_only : (ed : Edition) (v : Float) → weight_text ed v ≡ stars → Unwritable ed v
+unfolding weight_text
+stars_only ed nan e = tt
+stars_only ed (inf s) e = tt
+stars_only ed (fin s m x) e =
+    let text = units_text ed s (units_of ed m x) in
+    either (leb (length text) 10)
+    (λ t. absurd (not_stars ed s (units_of ed m x) (rw t at e)))
+    (λ t. leb-false (length text) 10 t)
+
+pub unwritable_stars : (ed : Edition) (v : Float) → Unwritable ed v → weight_text ed v ≡ stars
+unfolding weight_text
+unwritable_stars ed nan h = refl
+unwritable_stars ed (inf s) h = refl
+unwritable_stars ed (fin s m x) h = rw (lt-leb (length (units_text ed s (units_of ed m x))) 10 h)
