@@ -15,7 +15,7 @@ ghost use Rattle.walk.specs.Walk.{read_cell, seek};
 ghost use Rattle.walk.specs.Step.{Selection, wanted as wanted_by, all_columns, listed, open_with, opening_of};
 ghost use Rattle.walk.specs.Step.{cursor_step, cell_result, seek_result};
 
-pub use belong::belongs;
+pub use belong::{belongs, fits};
 use cell::{Cell, Heap};
 pub use choice::chosen;
 use layout::BinTable;

@@ -1,0 +1,7 @@
+pub mod Pieces
+pub mod Puts
+pub mod Widths
+pub mod Fits
+pub mod Calls
+pub mod Lines
+pub mod Cells

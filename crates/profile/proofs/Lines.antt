@@ -1,0 +1,45 @@
+-- Line i of a page is that of item i, in the page and in the buffer after the call.
+-- Assumes nothing.
+use Rattle.std.proofs.Common.{ℕ, ◌≡◌, ◌+◌, ◌*◌, ◌<◌, ◌≤◌, true, List, length, take, drop, sym, ap, ◌∙◌, arith}
+use Rattle.std.specs.Prelude.{Some}
+use Rattle.std.proofs.lemmas.List.{drop-take, take-take}
+use Rattle.ascii.proofs.Chain.{front}
+use Rattle.layout.specs.declared.BinTable.{BinTable}
+use Rattle.layout.specs.Layout.{layout_ok}
+use Rattle.walk.specs.Plain.{column_of}
+use Rattle.walk.proofs.Inside.{fits_layout}
+use Rattle.weight.specs.declared.Edition.{Edition}
+use Rattle.profile.specs.Page.{profile_line, weight_at, profile_page, edition_of, e_column, wrote}
+use Rattle.profile.specs.Page.{page_reply, page_left}
+use Rattle.profile.proofs.Pieces.{piece_at}
+use Rattle.profile.proofs.Fits.{each_line, page_length}
+use Rattle.profile.proofs.Calls.{page_put, written_is}
+
+pub page_line : (l : BinTable) (a : List ℕ) (c r : ℕ) (ed : Edition) (i : ℕ) → layout_ok l ≡ true
+    → e_column l c ≡ true → r < l.naxis2 → i < (column_of l c).count
+    → take 27 (drop (27 * i) (profile_page l a c r ed)) ≡ profile_line r i (weight_at l a c r ed i)
+unfolding profile_page
+page_line l a c r ed i ok t h q =
+    let line = λ (j : ℕ). profile_line r j (weight_at l a c r ed j) in
+    let at : 27 * i ≡ i * 27 = omega arith in
+    let first : 0 + i ≡ i = omega arith in
+    rw at (piece_at line 27 0 (column_of l c).count i (λ j p. each_line l ok c t a r h ed j (omega arith)) q
+    ∙ ap line first)
+
+-- the bytes from place p on within the first n
+within : (s : List ℕ) (n p k : ℕ) → p + k ≤ n → take k (drop p s) ≡ take k (drop p (take n s))
+within s n p k h =
+    sym (drop-take p k s) ∙ ap (drop p) (sym (take-take (p + k) n s h)) ∙ drop-take p k (take n s)
+
+pub line_left : (l : BinTable) (a : List ℕ) (c r number : ℕ) (ed : Edition) (buffer : List ℕ) (n i : ℕ)
+    → page_reply l a c r number (length buffer) ≡ wrote n → edition_of number ≡ Some ed → i < (column_of l c).count
+    → take 27 (drop (27 * i) (page_left l a c r number buffer)) ≡ profile_line r i (weight_at l a c r ed i)
+line_left l a c r number ed buffer n i w e q =
+    let x = written_is l a c r number (length buffer) n w in
+    let t : List ℕ = profile_page l a c r ed in
+    let fills : length t ≡ n = page_length l (fits_layout l a x.fitting) c x.column a r x.row ed ∙ sym x.size in
+    let page : take n (page_left l a c r number buffer) ≡ t =
+    front buffer t x.inside (omega (arith, fills), page_put l a c r number buffer n w ed e) in
+    within (page_left l a c r number buffer) n (27 * i) 27 (omega (arith, x.size))
+    ∙ ap (λ (s : List ℕ). take 27 (drop (27 * i) s)) page
+    ∙ page_line l a c r ed i (fits_layout l a x.fitting) x.column x.row q
