@@ -23,7 +23,7 @@ use Rattle.turn.proofs.Turned.{turned_round, turned_back_round}
 use Rattle.subcommand.specs.declared.answers.Way.{Way}
 use Rattle.subcommand.specs.declared.answers.Way.TheVariants as W
 use Rattle.subcommand.specs.Arguments.{turn, turn_back, asked}
-use Rattle.subcommand.specs.Printed.{Printed, table_limit, by_entry, of_file, of_table, printed, run}
+use Rattle.subcommand.specs.Printed.{Printed, table_limit, writes, by_entry, of_file, of_table, printed, run}
 use Rattle.subcommand.specs.Printed.{turned_file, turned_back_file}
 use Rattle.subcommand.specs.Ways.{area_by, file_by}
 use Rattle.subcommand.proofs.Front.{header_stays, data_behind}
@@ -100,15 +100,15 @@ module _ (w : Way) (f : List ℕ) (l : BinTable) (e : entry (header_of f) (data_
   file_length : length (file_by w l f) ≡ length f
   file_length = rw (file_parts w l f) (length-append (header_of f) area ∙ whole_length f l w e)
 
-  file_back : of_file (file_by (other w)) (file_by w l f) ≡ record { out = f; err = []; status = 0 }
+  file_back : of_file (writes (file_by (other w))) (file_by w l f) ≡ record { out = f; err = []; status = 0 }
   file_back = rw (file_parts w l f, accepts, undone) refl
 
 pub turned_written : (f : List ℕ) (l : BinTable) → entry (header_of f) (data_of f) ≡ accepted l
-    → of_file turned_back_file (turned_file l f) ≡ record { out = f; err = []; status = 0 }
+    → of_file (writes turned_back_file) (turned_file l f) ≡ record { out = f; err = []; status = 0 }
 turned_written f l e = file_back W.Turn f l e
 
 pub turned_back_written : (f : List ℕ) (l : BinTable) → entry (header_of f) (data_of f) ≡ accepted l
-    → of_file turned_file (turned_back_file l f) ≡ record { out = f; err = []; status = 0 }
+    → of_file (writes turned_file) (turned_back_file l f) ≡ record { out = f; err = []; status = 0 }
 turned_back_written f l e = file_back W.TurnBack f l e
 
 -- ---- runs
@@ -129,11 +129,11 @@ record Accepts (file : Option (List ℕ)) : Type 0 where
 
 -- a run with status 0 has accepted its file
 module _ (made : BinTable → List ℕ → List ℕ) where
-  entry_zero : (f : List ℕ) (x : Entry) → (by_entry made f x).status ≡ 0 → (l : BinTable) × (x ≡ accepted l)
+  entry_zero : (f : List ℕ) (x : Entry) → (by_entry (writes made) f x).status ≡ 0 → (l : BinTable) × (x ≡ accepted l)
   entry_zero f (accepted l) z = (l, refl)
   entry_zero f (refused n p) z = absurd (omega (arith, z))
 
-  status_zero : (name : List ℕ) (file : Option (List ℕ)) → (of_table made name file).status ≡ 0 → Accepts file
+  status_zero : (name : List ℕ) (file : Option (List ℕ)) → (of_table (writes made) name file).status ≡ 0 → Accepts file
   status_zero name None z = absurd (omega (arith, rw empty_refused at z))
   status_zero name (Some f) z =
       either (ltb table_limit (length f))
@@ -143,14 +143,15 @@ module _ (made : BinTable → List ℕ → List ℕ) where
 
 module _ (w : Way) (name again : List ℕ) (file : Option (List ℕ)) where
   accepted_back : Accepts file
-      → Gives (of_table (file_by (other w)) again (Some (of_table (file_by w) name file).out)) file
+      → Gives (of_table (writes (file_by (other w))) again (Some (of_table (writes (file_by w)) name file).out)) file
   accepted_back t =
-      let made : (of_table (file_by w) name file).out ≡ file_by w t.l t.f = rw (t.is, t.short, t.entered) refl in
+      let made : (of_table (writes (file_by w)) name file).out ≡ file_by w t.l t.f =
+      rw (t.is, t.short, t.entered) refl in
       rw (made, file_length w t.f t.l t.entered, t.short, file_back w t.f t.l t.entered)
       (record { out = sym t.is; err = refl; status = refl })
 
-  table_back : (of_table (file_by w) name file).status ≡ 0
-      → Gives (of_table (file_by (other w)) again (Some (of_table (file_by w) name file).out)) file
+  table_back : (of_table (writes (file_by w)) name file).status ≡ 0
+      → Gives (of_table (writes (file_by (other w))) again (Some (of_table (writes (file_by w)) name file).out)) file
   table_back z = accepted_back (status_zero (file_by w) name file z)
 
 -- the files as the first run finds them, and as the second does: there `again` has what the first one wrote

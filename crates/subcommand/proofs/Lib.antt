@@ -1,4 +1,6 @@
 pub mod Long
+pub mod Made
+pub mod Paged
 pub mod Turning
 pub mod Empty
 pub mod Cut

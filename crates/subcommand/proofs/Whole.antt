@@ -32,4 +32,5 @@ whole_run args files s file a out e r p =
         → printed (asked_by s) (λ name. file) ≡ printed (asked_by s) (λ name. cut (files name))
     same (Some (S.Turn table)) r = rw r refl
     same (Some (S.TurnBack table)) r = rw r refl
+    same (Some (S.Page table column row edition)) r = rw r refl
     same None r = refl

@@ -1,11 +1,12 @@
 -- What standard error gets (FORMAT.md, section 19).
 -- Assumes nothing.
-use Rattle.std.specs.Prelude.{ℕ, List, [], ◌∷◌, ◌++◌, codes, map}
+use Rattle.std.specs.Prelude.{ℕ, List, [], ◌∷◌, ◌++◌, codes, map, cond, ◌||◌, eqb, ltb, Option, Some, None}
 use Rattle.std.specs.List.{concat}
 use Rattle.ascii.specs.Number.{decimal_text}
 use Rattle.refusal.specs.declared.Refusal.{Refusal}
 use Rattle.refusal.specs.Refusal.{number_of, place_of}
-use Rattle.words.specs.Words.{words_text}
+use Rattle.words.specs.Words.{words_with}
+use Rattle.layout.specs.declared.BinTable.{BinTable}
 use Rattle.subcommand.specs.declared.message.Message.{Message}
 
 -- how the program is used
@@ -13,13 +14,21 @@ unfoldable pub usage_text : List ℕ
 usage_text =
     codes "usage: coentrift turn TABLE\n"
     ++ codes "       coentrift turn-back TABLE\n"
+    ++ codes "       coentrift page TABLE COLUMN ROW EDITION\n"
     ++ codes "\n"
-    ++ codes "Both write to standard output the header of TABLE as it is, then its data. turn puts\n"
-    ++ codes "byte p of row r, both counted from 0, at p x NAXIS2 + r, and leaves the bytes after\n"
-    ++ codes "the last row as they are; turn-back takes such a file and puts each byte back.\n"
+    ++ codes "turn and turn-back write to standard output the header of TABLE as it is, then its\n"
+    ++ codes "data. turn puts byte p of row r, both counted from 0, at p x NAXIS2 + r, and leaves\n"
+    ++ codes "the bytes after the last row as they are; turn-back takes such a file and puts each\n"
+    ++ codes "byte back.\n"
+    ++ codes "\n"
+    ++ codes "page writes a line for each item of a column of form E in one row: ROW, the item's\n"
+    ++ codes "index and its weight, with one decimal in EDITION 1 and two in EDITION 2, or ten\n"
+    ++ codes "stars where that takes more than ten places. COLUMN is an index if it is all digits,\n"
+    ++ codes "else a name, in either case. Rows, columns and items are counted from 0.\n"
+    ++ codes "\n"
     ++ codes "TABLE is the file of a binary table extension alone, its header and then its data,\n"
     ++ codes "of 2,097,152 bytes at most. One that cannot be read counts as empty. An argument has\n"
-    ++ codes "at most 4,095 bytes, and case counts. docs/FORMAT.md, sections 18 and 19, says more.\n"
+    ++ codes "at most 4,095 bytes. docs/FORMAT.md, sections 18 to 20, says more.\n"
     ++ codes "\n"
     ++ codes "Status: 0 all was written; 1 the table was refused or is too long, and standard\n"
     ++ codes "error says why; 2 the arguments are wrong, memory is lacking, or the output cannot\n"
@@ -33,12 +42,42 @@ unread_text name = codes "coentrift: cannot read '" ++ name ++ codes "', which c
 abbrev pub long_file_text : List ℕ → List ℕ
 long_file_text name = codes "coentrift: '" ++ name ++ codes "' is longer than 2,097,152 bytes\n"
 
--- a refusal of a file's table, in words
-abbrev pub refused_text : Refusal → List ℕ → List ℕ
-refused_text r file =
+-- a refusal by texts of its number and its place, and in words
+abbrev pub refused_with : List ℕ → List ℕ → List ℕ → List ℕ
+refused_with number place words =
     concat
-    (codes "coentrift: refused " ∷ decimal_text (number_of r) ∷ codes " " ∷ decimal_text (place_of r) ∷ codes ": "
-    ∷ words_text r file ∷ codes "\n" ∷ [])
+    (codes "coentrift: refused " ∷ number ∷ codes " " ∷ place ∷ codes ": " ∷ words ∷ codes "\n" ∷ [])
+
+abbrev pub refused_text : Refusal → List ℕ → List ℕ
+refused_text r words = refused_with (decimal_text (number_of r)) (decimal_text (place_of r)) words
+
+-- why there is no page of this edition and this column, which may not be there
+abbrev pub column_text : BinTable → Option ℕ → List ℕ
+column_text l None = codes "the table has no such column"
+column_text l (Some c) =
+    cond (ltb c l.tfields) (codes "the form of the column is not E (PE and QE are others)")
+    (codes "the table has no such column")
+
+unfoldable pub no_page_text : BinTable → Option ℕ → ℕ → List ℕ
+no_page_text l c edition =
+    cond (eqb edition 1 || eqb edition 2) (column_text l c) (codes "there is no edition but 1 and 2")
+
+-- the page has more bytes than the program has room for, by a text of how many those are
+abbrev pub long_page_text : List ℕ → List ℕ
+long_page_text needed =
+    concat
+    (codes "the page takes " ∷ needed
+    ∷ codes " bytes, and there is room for 4,194,304, which are 155,344 lines" ∷ [])
+
+-- a refusal of a page in words, with a text of its place: 15 and 14, and the others as those of the table
+abbrev pub page_words_with : List ℕ → BinTable → List ℕ → Option ℕ → ℕ → Refusal → List ℕ
+page_words_with place l file c edition r =
+    cond (eqb (number_of r) 15) (no_page_text l c edition)
+    (cond (eqb (number_of r) 14) (long_page_text place) (words_with place r file))
+
+-- and with its place in decimal
+abbrev pub page_words : BinTable → List ℕ → Option ℕ → ℕ → Refusal → List ℕ
+page_words l file c edition r = page_words_with (decimal_text (place_of r)) l file c edition r
 
 -- the pieces of the code's value, one after the other
 abbrev pub message_text : Message → List ℕ

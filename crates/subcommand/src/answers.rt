@@ -8,12 +8,14 @@ ghost use Rattle.listing.specs.Lines.{refused_line};
 ghost use Rattle.header.specs.Records.{header_of, data_of};
 ghost use Rattle.bintable.specs.Entry.{entry, accepted};
 ghost use Rattle.turn.specs.Turn.{turn_outcome};
-ghost use Rattle.subcommand.specs.Arguments.{asked_by};
+ghost use Rattle.subcommand.specs.Arguments.{sought_by, asked_by, table_of};
 ghost use Rattle.subcommand.specs.Printed.{printed, printed_by, of_table, of_file, table_limit};
-ghost use Rattle.subcommand.specs.Ways.{area_by, file_by};
+ghost use Rattle.profile.specs.Page.{reply_of};
+ghost use Rattle.subcommand.specs.Printed.{found_column, page_reply, page_made};
+ghost use Rattle.subcommand.specs.Ways.{area_by, file_by, made_by, page_left};
 
 use super::message::{Digits, Message};
-use super::{Subcommand, message};
+use super::{SoughtColumn, Subcommand, message};
 use layout::{BinTable, EMPTY_LAYOUT};
 use listing::Line;
 use refusal::Refusal;
@@ -21,8 +23,8 @@ use refusal::Refusal;
 // The most bytes of a table's file.
 pub const TABLE_LIMIT: usize = 2097152;
 
-// The length of the buffer for what is printed: it has room for all of it.
-pub const OUT_ROOM: usize = 2097152;
+// The length of the buffer for what is printed. It has room for each table and for 155,344 lines of a page.
+pub const OUT_ROOM: usize = 4194304;
 
 // The statuses: all was done; a table was refused, or is too long; the arguments are wrong.
 const DONE: u8 = 0;
@@ -80,24 +82,109 @@ fn put_turned(file: &[u8], layout: BinTable, way: Way, out: &mut [u8; OUT_ROOM])
     file.len()
 }
 
+// The column that is sought, if there is one: an index is taken as it is.
+fn find_column(header: &[u8], layout: BinTable, column: SoughtColumn) -> Option<usize>
+    ensures { result ≡ found_column header.now layout (sought_by column.entry) }
+{
+    match column {
+        SoughtColumn::Index(c) => Some(c),
+        SoughtColumn::Name(name) => layout::find_field_by_ttype(header, layout, name),
+    }
+}
+
+// Puts the page of a row of a column to the front of the buffer, unless it is refused, as where there is no column.
+fn put_page(
+    layout: BinTable,
+    area: &[u8],
+    column: Option<usize>,
+    row: usize,
+    edition: u64,
+    out: &mut [u8; OUT_ROOM],
+) -> Result<usize, Refusal>
+    ensures reply { reply_of result ≡ page_reply layout area.now column row edition }
+    ensures buffer { out.new ≡ page_left layout area.now column row edition out.old }
+{
+    match column {
+        Some(c) => profile::put_page(layout, area, c, row, edition, out),
+        None => Err(Refusal::UnsuitableColumn),
+    }
+}
+
+// The page of a row, or its refusal.
+fn of_page<'a>(
+    file: &'a [u8],
+    layout: BinTable,
+    column: SoughtColumn,
+    row: usize,
+    edition: u64,
+    out: &mut [u8; OUT_ROOM],
+    digits: &'a mut Digits,
+) -> Answer<'a>
+    ensures printed { printed_by result out.new ≡ page_made (sought_by column.entry) row edition layout file.now }
+    ensures len { result.len ≡ length (page_made (sought_by column.entry) row edition layout file.now).out }
+    ensures buffer { out.new ≡ put_in out.old 0 (page_made (sought_by column.entry) row edition layout file.now).out }
+{
+    let (header, area) = header::split_file(file);
+    let found = find_column(header, layout, column);
+    match put_page(layout, area, found, row, edition, out) {
+        Ok(len) => Answer {
+            len,
+            message: message::nothing(),
+            status: DONE,
+        },
+        Err(refusal) => Answer {
+            len: put_refusal(refusal, out),
+            message: message::page_refused(refusal, file, &layout, found, edition, digits),
+            status: REFUSED,
+        },
+    }
+}
+
+// What is made of a file whose table the entry accepts.
+fn of_accepted<'a>(
+    file: &'a [u8],
+    layout: BinTable,
+    asked: Subcommand,
+    out: &mut [u8; OUT_ROOM],
+    digits: &'a mut Digits,
+) -> Answer<'a>
+    requires entered { entry (header_of file.now) (data_of file.now) ≡ accepted layout }
+    requires room { length file.now ≤ table_limit }
+    ensures printed { printed_by result out.new ≡ made_by asked.entry layout file.now }
+    ensures len { result.len ≡ length (made_by asked.entry layout file.now).out }
+    ensures buffer { out.new ≡ put_in out.old 0 (made_by asked.entry layout file.now).out }
+{
+    let way = match asked {
+        Subcommand::Turn(_) => Way::Turn,
+        Subcommand::TurnBack(_) => Way::TurnBack,
+        Subcommand::Page {
+            column,
+            row,
+            edition,
+            ..
+        } => return of_page(file, layout, column, row, edition, out, digits),
+    };
+    Answer {
+        len: put_turned(file, layout, way, out),
+        message: message::nothing(),
+        status: DONE,
+    }
+}
+
 // What is made of a file's table.
 fn of_file<'a>(
     file: &'a [u8],
-    way: Way,
+    asked: Subcommand,
     out: &mut [u8; OUT_ROOM],
     digits: &'a mut Digits,
 ) -> Answer<'a>
     requires { length file.now ≤ table_limit }
-    ensures printed { printed_by result out.new ≡ of_file (file_by way) file.now }
-    ensures len { result.len ≡ length (of_file (file_by way) file.now).out }
-    ensures buffer { out.new ≡ put_in out.old 0 (of_file (file_by way) file.now).out }
+    ensures printed { printed_by result out.new ≡ of_file (made_by asked.entry) file.now }
+    ensures len { result.len ≡ length (of_file (made_by asked.entry) file.now).out }
+    ensures buffer { out.new ≡ put_in out.old 0 (of_file (made_by asked.entry) file.now).out }
 {
     match bintable::parse_file(file) {
-        Ok(layout) => Answer {
-            len: put_turned(file, layout, way, out),
-            message: message::nothing(),
-            status: DONE,
-        },
+        Ok(layout) => of_accepted(file, layout, asked, out, digits),
         Err(refusal) => Answer {
             len: put_refusal(refusal, out),
             message: message::refused(refusal, file, digits),
@@ -109,16 +196,19 @@ fn of_file<'a>(
 // What is made of the table in a file that was read, or that could not be, which counts as empty.
 #[tactic(auto, using(crate::proofs::Empty::put_nothing, bintable::proofs::Empty::empty_refused))]
 fn of_table<'a>(
-    name: &'a [u8],
+    asked: Subcommand<'a>,
     file: Option<&'a [u8]>,
-    way: Way,
     out: &mut [u8; OUT_ROOM],
     digits: &'a mut Digits,
 ) -> Answer<'a>
-    ensures printed { printed_by result out.new ≡ of_table (file_by way) name.now (option_copied file.entry) }
-    ensures len { result.len ≡ length (of_table (file_by way) name.now (option_copied file.entry)).out }
-    ensures buffer { out.new ≡ put_in out.old 0 (of_table (file_by way) name.now (option_copied file.entry)).out }
+    ensures printed { printed_by result out.new
+        ≡ of_table (made_by asked.entry) (table_of asked.entry) (option_copied file.entry) }
+    ensures len { result.len
+        ≡ length (of_table (made_by asked.entry) (table_of asked.entry) (option_copied file.entry)).out }
+    ensures buffer { out.new
+        ≡ put_in out.old 0 (of_table (made_by asked.entry) (table_of asked.entry) (option_copied file.entry)).out }
 {
+    let name = asked.table();
     let Some(bytes) = file else {
         let refusal = Refusal::BadLength;
         return Answer {
@@ -134,12 +224,12 @@ fn of_table<'a>(
             status: REFUSED,
         };
     }
-    of_file(bytes, way, out, digits)
+    of_file(bytes, asked, out, digits)
 }
 
 // What is printed for a subcommand, or for wrong arguments, and the file that it names, as it was read; none where it
 // cannot be read. The rest of the buffer stays as it was.
-#[tactic(auto, using(crate::proofs::Empty::put_nothing))]
+#[tactic(auto, using(crate::proofs::Empty::put_nothing, crate::proofs::Made::made_printed))]
 pub fn respond<'a>(
     asked: Option<Subcommand<'a>>,
     file: Option<&'a [u8]>,
@@ -151,8 +241,7 @@ pub fn respond<'a>(
     ensures buffer { out.new ≡ put_in out.old 0 (printed (asked_by asked.entry) (λ _. option_copied file.entry)).out }
 {
     match asked {
-        Some(Subcommand::Turn(name)) => of_table(name, file, Way::Turn, out, digits),
-        Some(Subcommand::TurnBack(name)) => of_table(name, file, Way::TurnBack, out, digits),
+        Some(subcommand) => of_table(subcommand, file, out, digits),
         None => Answer {
             len: 0,
             message: message::usage(),

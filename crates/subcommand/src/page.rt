@@ -1,0 +1,59 @@
+// A refusal of a page in words.
+ghost use Rattle.std.specs.Prelude.{◌≡◌, [], ◌∷◌, map};
+ghost use Rattle.std.specs.List.{concat};
+ghost use Rattle.subcommand.specs.Message.{column_text, no_page_text, page_words_with};
+
+use layout::BinTable;
+use refusal::Refusal;
+use words::PIECES;
+
+// Why a column has no page.
+fn no_column<'a>(layout: &BinTable, column: Option<usize>) -> &'a [u8]
+    ensures { result.now ≡ column_text layout.now column }
+{
+    match column {
+        Some(c) if c < layout.tfields => b"the form of the column is not E (PE and QE are others)",
+        _ => b"the table has no such column",
+    }
+}
+
+// Why there is no page of an edition and a column.
+#[tactic(auto, unfolding(crate::specs::Message::no_page_text))]
+fn no_page<'a>(layout: &BinTable, column: Option<usize>, edition: u64) -> &'a [u8]
+    ensures { result.now ≡ no_page_text layout.now column edition }
+{
+    if edition == 1 || edition == 2 {
+        return no_column(layout, column);
+    }
+    b"there is no edition but 1 and 2"
+}
+
+// Words of up to three pieces.
+fn three<'a>(a: &'a [u8], b: &'a [u8], c: &'a [u8]) -> [&'a [u8]; PIECES]
+    ensures { concat (map (λ p. p.now) result) ≡ concat (a.now ∷ b.now ∷ c.now ∷ []) }
+{
+    [a, b, c, b"", b"", b"", b""]
+}
+
+// A refusal of a page in words, as the pieces that make them. `place` is its place as text.
+pub fn words<'a>(
+    refusal: Refusal,
+    file: &'a [u8],
+    layout: &BinTable,
+    column: Option<usize>,
+    edition: u64,
+    place: &'a [u8],
+) -> [&'a [u8]; PIECES]
+    ensures { concat (map (λ p. p.now) result)
+        ≡ page_words_with place.now layout.now file.now column edition refusal }
+{
+    match refusal {
+        Refusal::UnsuitableColumn => three(no_page(layout, column, edition), b"", b""),
+        Refusal::ShortList { needed: _ } => three(
+            b"the page takes ",
+            place,
+            b" bytes, and there is room for 4,194,304, which are 155,344 lines",
+        ),
+        _ => words::words(refusal, file, place),
+    }
+}
