@@ -1,7 +1,10 @@
--- Line i of a page is that of item i, in the page and in the buffer after the call.
+-- Line i of a page is that of item i, in the page and in the buffer after the call, and what its weight says.
 -- Assumes nothing.
 use Rattle.std.proofs.Common.{ℕ, ◌≡◌, ◌+◌, ◌*◌, ◌<◌, ◌≤◌, true, List, length, take, drop, sym, ap, ◌∙◌, arith}
-use Rattle.std.specs.Prelude.{Some}
+use mathlib.Core.Logic.{◌⊎◌}
+use Rattle.std.specs.Prelude.{Some, Float}
+use Rattle.std.specs.Float.{binary32}
+use Rattle.std.specs.Float.Ieee.{of_bits}
 use Rattle.std.proofs.lemmas.List.{drop-take, take-take}
 use Rattle.ascii.proofs.Chain.{front}
 use Rattle.layout.specs.declared.BinTable.{BinTable}
@@ -9,7 +12,10 @@ use Rattle.layout.specs.Layout.{layout_ok}
 use Rattle.walk.specs.Plain.{column_of}
 use Rattle.walk.proofs.Inside.{fits_layout}
 use Rattle.weight.specs.declared.Edition.{Edition}
-use Rattle.profile.specs.Page.{profile_line, weight_at, profile_page, edition_of, e_column, wrote}
+use Rattle.weight.specs.Weight.{stars}
+use Rattle.weight.specs.Reading.{Says, Unwritable}
+use Rattle.weight.proofs.Stars.{weight_or_stars}
+use Rattle.profile.specs.Page.{profile_line, bits_at, weight_at, profile_page, edition_of, e_column, wrote}
 use Rattle.profile.specs.Page.{page_reply, page_left}
 use Rattle.profile.proofs.Pieces.{piece_at}
 use Rattle.profile.proofs.Fits.{each_line, page_length}
@@ -43,3 +49,20 @@ line_left l a c r number ed buffer n i w e q =
     within (page_left l a c r number buffer) n (27 * i) 27 (omega (arith, x.size))
     ∙ ap (λ (s : List ℕ). take 27 (drop (27 * i) s)) page
     ∙ page_line l a c r ed i (fits_layout l a x.fitting) x.column x.row q
+
+-- a line whose weight is ten stars, or says the exact value of a float
+pub record Shows (row idx : ℕ) (ed : Edition) (v : Float) (line : List ℕ) : Type 0 where
+  pub weight : List ℕ
+  pub is : line ≡ profile_line row idx weight
+  pub says : ((weight ≡ stars) × Unwritable ed v) ⊎ Says ed v weight
+
+-- of the float of item i
+pub line_says : (l : BinTable) (a : List ℕ) (c r number : ℕ) (ed : Edition) (buffer : List ℕ) (n i : ℕ)
+    → page_reply l a c r number (length buffer) ≡ wrote n → edition_of number ≡ Some ed → i < (column_of l c).count
+    → Shows r i ed (of_bits binary32 (bits_at l a c r i)) (take 27 (drop (27 * i) (page_left l a c r number buffer)))
+line_says l a c r number ed buffer n i w e q =
+    record {
+      weight = weight_at l a c r ed i;
+      is = line_left l a c r number ed buffer n i w e q;
+      says = weight_or_stars ed (bits_at l a c r i);
+    }

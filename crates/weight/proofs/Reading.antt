@@ -26,7 +26,7 @@ use Rattle.weight.specs.declared.Edition.{Edition}
 use Rattle.weight.specs.declared.Edition.TheVariants.{One, Two}
 use Rattle.weight.specs.Weight.{decimals, last_digits, units_text, units_of, stars, weight_text}
 use Rattle.weight.specs.Reading.{Number, said, WithinHalf, Says}
-use Rattle.weight.proofs.Digits.{some_digit}
+use Rattle.weight.proofs.Digits.{some_digit, no_zero}
 use Rattle.weight.proofs.Long.{last_length}
 use Rattle.weight.proofs.Rounded.{Near, rounded_near}
 
@@ -63,6 +63,10 @@ decimal_two : (xs : List ℕ) (x y : ℕ)
     → decimal 0 (xs ++ (x ∷ y ∷ [])) ≡ (decimal 0 xs * 10 + (x - 48)) * 10 + (y - 48)
 decimal_two xs x y = rw (← append_snoc xs x (y ∷ []), snoc 0 (xs ++ (x ∷ [])) y, snoc 0 xs x)
 
+whole_below : (ed : Edition) (units : ℕ) → units < 10 ^ (39 + decimals ed) → units / 10 ^ decimals ed < 10 ^ 39
+whole_below One units h = tenth (10 ^ 39) units h
+whole_below Two units h = hundredth (10 ^ 39) units h
+
 -- the digits of some units, taken together
 decimal_units : (ed : Edition) (units : ℕ) → units < 10 ^ (39 + decimals ed)
     → decimal 0 (decimal_in 39 (units / 10 ^ decimals ed) ++ last_digits (decimals ed) units) ≡ units
@@ -97,6 +101,7 @@ units_read ed s units h =
         fraction = fraction;
         parts = refl;
         some = some_digit 38 n;
+        plain = no_zero 38 n (whole_below ed units h);
         digits = rw (list_all-append digit whole fraction, in_digits 39 n, last_all (decimals ed) units);
       };
       places = last_length ed units;

@@ -1,21 +1,24 @@
--- The text of a weight is ten stars exactly where the weight has no text of ten places.
+-- The text of a weight is ten stars exactly where the weight has no text of ten places; else it says the exact value.
 -- Assumes nothing.
 use Prim.Native.Nat.{ℕ, ◌/◌, ◌^◌}
 use mathlib.Core.Path.{◌≡◌, refl, sym, ap, ◌∙◌}
 use mathlib.Core.Bool.{Bool, false, true≢false, and-false}
 use mathlib.Core.List.{List, ◌∷◌, ◌++◌, append_assoc}
+use mathlib.Core.Logic.{◌⊎◌, inl, inr}
 use lib.ListN.{length}
 use lib.Dec.{eqb, leb}
 use borrow.Author.Tests.{leb-false, lt-leb}
 use Rattle.std.specs.Prelude.{Float}
-use Rattle.std.specs.Float.{nan, inf, fin}
+use Rattle.std.specs.Float.{nan, inf, fin, binary32}
+use Rattle.std.specs.Float.Ieee.{of_bits}
 use Rattle.std.specs.List.{list_all}
 use Rattle.std.proofs.lemmas.List.Folds.{list_all-append}
 use Rattle.ascii.specs.Number.{decimal_in}
 use Rattle.ascii.proofs.Cases.{either}
 use Rattle.weight.specs.declared.Edition.{Edition}
 use Rattle.weight.specs.Weight.{decimals, sign_text, last_digits, stars, units_of, units_text, weight_text}
-use Rattle.weight.specs.Reading.{Unwritable}
+use Rattle.weight.specs.Reading.{Says, Unwritable}
+use Rattle.weight.proofs.Reading.{weight_says}
 
 abbrev star : ℕ → Bool
 star b = eqb b 42
@@ -49,3 +52,17 @@ unfolding weight_text
 unwritable_stars ed nan h = refl
 unwritable_stars ed (inf s) h = refl
 unwritable_stars ed (fin s m x) h = rw (lt-leb (length (units_text ed s (units_of ed m x))) 10 h)
+
+-- so the text of every bit pattern is ten stars, and no text of ten places says the float, or says its exact value
+pub weight_or_stars : (ed : Edition) (bits : ℕ)
+    → ((weight_text ed (of_bits binary32 bits) ≡ stars) × Unwritable ed (of_bits binary32 bits))
+    ⊎ Says ed (of_bits binary32 bits) (weight_text ed (of_bits binary32 bits))
+weight_or_stars ed bits = by (weight_says ed bits)
+  where
+    v : Float
+    v = of_bits binary32 bits
+
+    by : (weight_text ed v ≡ stars) ⊎ Says ed v (weight_text ed v)
+        → ((weight_text ed v ≡ stars) × Unwritable ed v) ⊎ Says ed v (weight_text ed v)
+    by (inl e) = inl (e, stars_only ed v e)
+    by (inr s) = inr s

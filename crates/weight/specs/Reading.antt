@@ -2,7 +2,7 @@
 -- contract cites it.
 -- Assumes nothing.
 use Rattle.std.specs.Prelude.{ℕ, ◌≡◌, ◌+◌, ◌*◌, ◌^◌, ◌<◌, ◌≤◌, Bool, true, ◌&&◌, cond, List, [], ◌∷◌, ◌++◌}
-use Rattle.std.specs.Prelude.{length, ltb, Float}
+use Rattle.std.specs.Prelude.{length, get_or, ltb, Float}
 use Rattle.std.specs.Float.{nan, inf, fin}
 use Rattle.std.specs.Float.Ieee.{up, down}
 use Rattle.std.specs.List.{list_all}
@@ -10,13 +10,15 @@ use Rattle.ascii.specs.Text.{digit, decimal}
 use Rattle.weight.specs.declared.Edition.{Edition}
 use Rattle.weight.specs.Weight.{decimals, units_text, units_of}
 
--- a text that is a number: a minus or none, digits, a point, digits; one digit or more before the point
+-- a text that is a number: a minus or none, digits, a point, digits; before the point one digit or more, and no zero
+-- (48) in front of others
 pub record Number (text : List ℕ) : Type 0 where
   pub negative : Bool
   pub whole : List ℕ
   pub fraction : List ℕ
   pub parts : text ≡ cond negative (45 ∷ []) [] ++ (whole ++ (46 ∷ fraction))
   pub some : 0 < length whole
+  pub plain : 1 < length whole → 48 < get_or whole 0 48
   pub digits : list_all digit (whole ++ fraction) ≡ true
 
 -- the units of its last decimal that it says
