@@ -1,6 +1,6 @@
-// Checksums of the cells that reads hand out, and of a layout, and a table's bytes turned, for the benchmark and the
-// oracle to call: a layout and a cell hold enums, which cannot be passed to C or Rust. Each sum has the number of a
-// refusal above its 32 bits, or 0.
+// Checksums of the cells that reads hand out, and of a layout, a table's bytes turned, and a profile page, for the
+// benchmark and the oracle to call: a layout and a cell hold enums, which cannot be passed to C or Rust. Each sum has
+// the number of a refusal above its 32 bits, or 0.
 #![tactic(auto)]
 
 mod cells;
@@ -21,6 +21,7 @@ ghost use Rattle.exports.specs.declared.Start.{Start};
 ghost use Rattle.exports.specs.Checksum.{entry_sum};
 ghost use Rattle.exports.specs.Reads.{by_cells, by_rows, list_length, table_reads, reads_sum};
 ghost use Rattle.exports.specs.Turning.{turn_number, turn_buffer, turn_back_buffer};
+ghost use Rattle.exports.specs.Page.{page_number, page_buffer};
 
 use layout::BinTable;
 use refusal::Refusal;
@@ -132,5 +133,28 @@ pub extern "C" fn coentrift_turn_back(header: &[u8], from: &[u8], to: &mut [u8])
     match bintable::parse(header, from) {
         Ok(layout) => refusals::number(turn::turn_back(layout, from, to)),
         Err(refusal) => refusal::number(refusal),
+    }
+}
+
+// The entry, then `profile::put_page`: the page of a row of an E column. The result is the number of its bytes, below
+// 2^32, or the number of a refusal of either above 32 bits of 0, as of `coentrift_layout`; the buffer is as it was
+// where one refuses.
+#[unsafe(no_mangle)]
+pub extern "C" fn coentrift_page(
+    header: &[u8],
+    area: &[u8],
+    column: usize,
+    row: usize,
+    edition: u64,
+    page: &mut [u8],
+) -> u64
+    ensures number { result ≡ page_number (entry header.now area.now) area.now column row edition (length page.old) }
+    ensures buffer { page.new ≡ page_buffer (entry header.now area.now) area.now column row edition page.old }
+{
+    match bintable::parse(header, area) {
+        Ok(layout) => refusals::page_number(profile::put_page(
+            layout, area, column, row, edition, page,
+        )),
+        Err(refusal) => refusals::refused(0, refusal),
     }
 }

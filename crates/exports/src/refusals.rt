@@ -1,9 +1,11 @@
-// The number of a refusal, alone or above a sum.
+// The number of a refusal, alone or above a sum or a length.
 ghost use Rattle.std.specs.Prelude.{◌≡◌};
 ghost use Rattle.refusal.specs.Refusal.{number_of, outcome_of};
 ghost use Rattle.exports.specs.Checksum.{with_number};
 ghost use Rattle.exports.specs.Loops.{number_in};
 ghost use Rattle.exports.specs.Turning.{outcome_number};
+ghost use Rattle.exports.specs.Page.{reply_number};
+ghost use Rattle.profile.specs.Page.{reply_of};
 
 use super::checksum::WORD_LIMIT;
 use refusal::Refusal;
@@ -31,5 +33,15 @@ pub fn number(answer: Result<(), Refusal>) -> u64
     match answer {
         Ok(()) => 0,
         Err(refusal) => refusal::number(refusal),
+    }
+}
+
+// The bytes of a page, or the number above 32 bits of 0.
+pub fn page_number(answer: Result<usize, Refusal>) -> u64
+    ensures { result ≡ reply_number (reply_of answer) }
+{
+    match answer {
+        Ok(bytes) => bytes as u64,
+        Err(refusal) => refused(0, refusal),
     }
 }
