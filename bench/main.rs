@@ -1,6 +1,8 @@
 //! Times fitsrs, cfitsio and this reader on the same tables and headers, in one thread, and prints ns a cell and ratios.
-//! Every run's checksum is compared with one that is made from the table's bytes alone. Then turning beside a copy.
+//! Every run's checksum is compared with one that is made from the table's bytes alone. Then turning beside a copy, and
+//! a profile page beside snprintf.
 
+mod pages;
 mod readers;
 mod tables;
 mod turning;
@@ -212,6 +214,7 @@ fn main() {
     );
     let by_columns = [1, 8, 16, 32, 64].map(|n| time_growth(n, 1_000_000 / n, n));
     let by_shape = turning::time_turning();
+    let by_items = pages::time_pages();
 
     println!("\ngoals {:38} {:>12} {:>10}", "", "wanted", "seen");
     for (name, figures) in [("(i)", &one), ("(ii)", &two), ("(v)", &five)] {
@@ -275,5 +278,13 @@ fn main() {
                 ratio < 4.0,
             );
         }
+    }
+    for (items, ratio) in by_items {
+        goal(
+            &format!("snprintf / page, {items}"),
+            "above 1",
+            ratio,
+            1.0 < ratio,
+        );
     }
 }

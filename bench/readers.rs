@@ -22,6 +22,8 @@ mod library {
         pub fn coentrift_layout(header: *const u8, header_len: usize, area: *const u8, area_len: usize) -> u64;
         pub fn coentrift_turn(header: *const u8, header_len: usize, from: *const u8, from_len: usize, to: *mut u8, to_len: usize) -> u64;
         pub fn coentrift_turn_back(header: *const u8, header_len: usize, from: *const u8, from_len: usize, to: *mut u8, to_len: usize) -> u64;
+        pub fn coentrift_page(header: *const u8, header_len: usize, area: *const u8, area_len: usize, column: usize, row: usize, edition: u64, page: *mut u8, page_len: usize) -> u64;
+        pub fn snprintf_page(items: *const u8, count: usize, row: usize, decimals: i32, page: *mut u8) -> u64;
         pub fn cfitsio_sum(bytes: *mut u8, len: usize, cols: *const usize, ncols: usize, whole_columns: i32) -> u64;
         pub fn cfitsio_open(bytes: *mut u8, len: usize) -> u64;
         pub fn thread_time() -> u64;
@@ -69,6 +71,32 @@ pub fn our_turn(turn: Turn, header: &[u8], from: &[u8], to: &mut [u8]) -> u64 {
             to.len(),
         )
     }
+}
+
+/// The page of a row of a table's only column; gives the number of its bytes, or that of a refusal above 32 bits of 0.
+pub fn our_page(table: &Table, row: usize, edition: u64, page: &mut [u8]) -> u64 {
+    let (header, area) = (&table.header, &table.area);
+    unsafe {
+        library::coentrift_page(
+            header.as_ptr(),
+            header.len(),
+            area.as_ptr(),
+            area.len(),
+            0,
+            row,
+            edition,
+            page.as_mut_ptr(),
+            page.len(),
+        )
+    }
+}
+
+/// The same by snprintf, with a zero behind the lines; gives the number of lines that were not cut at 27 bytes.
+pub fn snprintf_page(table: &Table, row: usize, decimals: i32, page: &mut [u8]) -> u64 {
+    let items = table.row(row);
+    let count = items.len() / 4;
+    assert!(count * 27 < page.len(), "the page is too short");
+    unsafe { library::snprintf_page(items.as_ptr(), count, row, decimals, page.as_mut_ptr()) }
 }
 
 /// A sum with a cell: its place, then its value's bits.

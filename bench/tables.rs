@@ -1,5 +1,5 @@
-//! The tables that are read or turned: their bytes, and from those alone the checksums of their cells and their bytes
-//! turned.
+//! The tables that are read, turned or printed: their bytes, and from those alone the checksums of their cells and their
+//! bytes turned.
 
 const BLOCK: usize = 2880;
 
@@ -21,10 +21,10 @@ pub struct Table {
 }
 
 /// A xorshift generator, so that every run has the same tables.
-struct Random(u64);
+pub struct Random(u64);
 
 impl Random {
-    fn draw(&mut self) -> u64 {
+    pub fn draw(&mut self) -> u64 {
         self.0 ^= self.0 << 13;
         self.0 ^= self.0 >> 7;
         self.0 ^= self.0 << 17;
@@ -161,6 +161,27 @@ impl Table {
             row_width,
             area: words.flat_map(|_| random.draw().to_be_bytes()).collect(),
         }
+    }
+
+    /// A table of one column of E items, whose bits are drawn.
+    pub fn of_floats(rows: usize, count: usize, bits: impl Fn(&mut Random) -> u32) -> Table {
+        let mut random = Random(88172645463325252);
+        let items = 0..rows * count;
+        let columns = vec![Column::of('E', count)];
+        Table {
+            header: header(&columns, count * 4, rows, 0, 0),
+            columns,
+            rows,
+            row_width: count * 4,
+            area: items
+                .flat_map(|_| bits(&mut random).to_be_bytes())
+                .collect(),
+        }
+    }
+
+    /// The bytes of a row.
+    pub fn row(&self, row: usize) -> &[u8] {
+        &self.area[row * self.row_width..(row + 1) * self.row_width]
     }
 
     /// The main table with byte p of row r at p * rows + r.
