@@ -310,13 +310,30 @@ cp "$work/large.turned" "$work/want"
 expect 0 '' coentrift turn large.fits
 cp "$work/large.fits" "$work/want"
 expect 0 '' coentrift turn-back large.turned
+# README's page, by name and by index, and what is refused of it
+cp "$here/crates/coentrift/data/profile.fits" "$work"
+sed -n '/^       0      0       80\.1$/,/^```$/p' "$here/README.md" | sed '$d' >"$work/want"
+for column in WEIGHT weight 1 01; do
+    expect 0 '' coentrift page profile.fits "$column" 0 1
+done
+printf '%8d %6d %10s\n' 0 0 80.12 0 1 80.25 0 2 -80.25 0 3 -0.04 0 4 '**********' >"$work/want"
+expect 0 '' coentrift page ./profile.fits Weight 0 02
+echo 'refused 15 0' >"$work/want"
+expect 1 'coentrift: refused 15 0: the column is not of form E (PE is another form)' coentrift page profile.fits pos 0 1
+for column in 2 '' 'weight ' -1; do
+    expect 1 'coentrift: refused 15 0: the table has no such column' coentrift page profile.fits "$column" 0 1
+done
+expect 1 'coentrift: refused 15 0: there is no edition but 1 and 2' coentrift page profile.fits weight 0 3
+echo 'refused 12 2' >"$work/want"
+expect 1 'coentrift: refused 12 2: row 2, counted from 0, is no row of the table' coentrift page profile.fits weight 2 1
 nothing
 usage=$("$here/crates/coentrift/out/coentrift" 2>&1)
 check 'usage' "$(hold [ "${usage%%
 *}" = 'usage: coentrift turn TABLE' ])"
 expect 2 "$usage" coentrift
 for words in turn table.fits 'turn table.fits table.fits' 'Turn table.fits' 'table.fits turn' --help \
-    '-- turn table.fits'; do
+    '-- turn table.fits' page 'page profile.fits weight 0' 'page profile.fits weight 0 1 1' \
+    'page profile.fits weight -1 1' 'page profile.fits weight 0 1.0' 'page profile.fits 18446744073709551616 0 1'; do
     # shellcheck disable=SC2086
     expect 2 "$usage" coentrift $words
 done

@@ -97,9 +97,6 @@ words() { # NUMBER PLACE TABLE
     12) echo "row $2, counted from 0, is no row of the table" ;;
     13) echo "an array of column $2, counted from 0, ends past the heap" ;;
     14) echo "the list is shorter than what is left of the row, $2 cells" ;;
-    15)
-        say_all 'the column is missing or not of a type that is taken here, or there is no such edition'
-        ;;
     *) echo 'docs/FORMAT.md, section 10, does not have this number' ;;
     esac | if [ "$1" -le 4 ] && whole_file "$3"; then
         printf '%s; ' "$(cat)"

@@ -91,7 +91,7 @@ fn edition_of(number: u64) -> Option<Edition>
 }
 
 // The E column with an index; none where there is no column, or it is of another form.
-fn e_column(layout: &BinTable, c: usize) -> Option<Column>
+fn find_e_column(layout: &BinTable, c: usize) -> Option<Column>
     requires { layout.now.tfields ≤ 64 }
     ensures { result ≡ cond (e_column layout.now c) (Some (column_of layout.now c)) None }
 {
@@ -118,8 +118,8 @@ pub fn put_page(
     if !table::fits(layout, area) {
         return Err(Refusal::Mismatch);
     }
-    let edition = edition_of(edition).ok_or(Refusal::UnsuitableColumn)?;
-    let column = e_column(&layout, column).ok_or(Refusal::UnsuitableColumn)?;
+    let edition = edition_of(edition).ok_or(Refusal::Unsuitable)?;
+    let column = find_e_column(&layout, column).ok_or(Refusal::Unsuitable)?;
     if layout.naxis2 <= row as u64 {
         return Err(Refusal::NoSuchRow { row });
     }

@@ -29,7 +29,7 @@ number_of R.NoColumn = 11
 number_of (R.NoSuchRow r) = 12
 number_of (R.ArrayOutsideHeap c) = 13
 number_of (R.ShortList n) = 14
-number_of R.UnsuitableColumn = 15
+number_of R.Unsuitable = 15
 number_of R.BufferMismatch = 22
 
 abbrev pub place_of : Refusal → ℕ
@@ -47,7 +47,7 @@ place_of R.NoColumn = 0
 place_of (R.NoSuchRow r) = r
 place_of (R.ArrayOutsideHeap c) = c
 place_of (R.ShortList n) = n
-place_of R.UnsuitableColumn = 0
+place_of R.Unsuitable = 0
 place_of R.BufferMismatch = 0
 
 -- the outcome that the code's answer is, whatever it returns where nothing is refused
@@ -71,6 +71,6 @@ cause_of n p =
     (cond (eqb n 12) (R.NoSuchRow p)
     (cond (eqb n 13) (R.ArrayOutsideHeap p)
     (cond (eqb n 14) (R.ShortList p)
-    (cond (eqb n 15) R.UnsuitableColumn
+    (cond (eqb n 15) R.Unsuitable
     (cond (eqb n 22) R.BufferMismatch
     R.BadLength))))))))))))))

@@ -29,8 +29,9 @@ pub enum Refusal {
     ArrayOutsideHeap { column: usize },
     // What was lent is too short for what is needed: a list for the cells of a row read, a page for its bytes.
     ShortList { needed: u64 },
-    // The column is missing or not of a type that the call takes, or there is no such edition.
-    UnsuitableColumn,
+    // What is asked for does not suit: the column is missing or not of a type that the call takes, or there is no such
+    // edition.
+    Unsuitable,
     // That of turning: the two buffers differ in length, or are too short.
     BufferMismatch,
 }
@@ -65,7 +66,7 @@ pub fn number(refusal: Refusal) -> u64
         Refusal::NoSuchRow { row: _ } => 12,
         Refusal::ArrayOutsideHeap { column: _ } => 13,
         Refusal::ShortList { needed: _ } => 14,
-        Refusal::UnsuitableColumn => 15,
+        Refusal::Unsuitable => 15,
         Refusal::BufferMismatch => 22,
     }
 }
@@ -89,7 +90,7 @@ pub fn place(refusal: Refusal) -> u64
         Refusal::NoSuchRow { row } => row as u64,
         Refusal::ArrayOutsideHeap { column } => column as u64,
         Refusal::ShortList { needed } => needed,
-        Refusal::UnsuitableColumn => 0,
+        Refusal::Unsuitable => 0,
         Refusal::BufferMismatch => 0,
     }
 }

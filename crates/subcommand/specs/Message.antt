@@ -22,9 +22,10 @@ usage_text =
     ++ codes "byte back.\n"
     ++ codes "\n"
     ++ codes "page writes a line for each item of a column of form E in one row: ROW, the item's\n"
-    ++ codes "index and its weight, with one decimal in EDITION 1 and two in EDITION 2, or ten\n"
-    ++ codes "stars where that takes more than ten places. COLUMN is an index if it is all digits,\n"
-    ++ codes "else a name, in either case. Rows, columns and items are counted from 0.\n"
+    ++ codes "index and its weight, with one decimal in EDITION 1 and two in EDITION 2. Ten stars\n"
+    ++ codes "stand for an infinity, a NaN and what takes more than ten places. COLUMN is an index\n"
+    ++ codes "if it is all digits, else a name, in either case. Rows, columns and items are counted\n"
+    ++ codes "from 0.\n"
     ++ codes "\n"
     ++ codes "TABLE is the file of a binary table extension alone, its header and then its data,\n"
     ++ codes "of 2,097,152 bytes at most. One that cannot be read counts as empty. An argument has\n"
@@ -55,7 +56,7 @@ refused_text r words = refused_with (decimal_text (number_of r)) (decimal_text (
 abbrev pub column_text : BinTable → Option ℕ → List ℕ
 column_text l None = codes "the table has no such column"
 column_text l (Some c) =
-    cond (ltb c l.tfields) (codes "the form of the column is not E (PE and QE are others)")
+    cond (ltb c l.tfields) (codes "the column is not of form E (PE is another form)")
     (codes "the table has no such column")
 
 unfoldable pub no_page_text : BinTable → Option ℕ → ℕ → List ℕ
@@ -67,7 +68,7 @@ abbrev pub long_page_text : List ℕ → List ℕ
 long_page_text needed =
     concat
     (codes "the page takes " ∷ needed
-    ∷ codes " bytes, and there is room for 4,194,304, which are 155,344 lines" ∷ [])
+    ∷ codes " bytes, 27 a line, and there is room for 155,344 lines" ∷ [])
 
 -- a refusal of a page in words, with a text of its place: 15 and 14, and the others as those of the table
 abbrev pub page_words_with : List ℕ → BinTable → List ℕ → Option ℕ → ℕ → Refusal → List ℕ

@@ -72,24 +72,18 @@ abbrev pub found_column : List ℕ → BinTable → ColumnArgument → Option �
 found_column header l (at_index c) = Some c
 found_column header l (named s) = find_name header l s
 
--- what the call answers
-abbrev pub page_reply : BinTable → List ℕ → Option ℕ → ℕ → ℕ → P.Reply
-page_reply l a None r edition = P.refused 15 0
-page_reply l a (Some c) r edition = P.page_reply l a c r edition page_limit
-
-abbrev pub page_text : BinTable → List ℕ → Option ℕ → ℕ → ℕ → List ℕ
-page_text l a None r edition = []
-page_text l a (Some c) r edition = P.page_in l a c r (P.edition_of edition)
-
+-- by what the call answers
 abbrev pub by_reply : List ℕ → (ℕ → ℕ → List ℕ) → P.Reply → Printed
 by_reply text words (P.wrote n) = done text
 by_reply text words (P.refused n p) = refused_by (words n p) n p
 
--- a page of a column that was sought
+-- the page of the column that was found; where there is none, a refusal
 abbrev pub page_of : ℕ → ℕ → BinTable → List ℕ → Option ℕ → Printed
-page_of row edition l file c =
-    by_reply (page_text l (data_of file) c row edition) (λ n p. page_words l file c edition (cause_of n p))
-    (page_reply l (data_of file) c row edition)
+page_of row edition l file None = refused_by (page_words l file None edition (cause_of 15 0)) 15 0
+page_of row edition l file (Some c) =
+    by_reply (P.page_in l (data_of file) c row (P.edition_of edition))
+    (λ n p. page_words l file (Some c) edition (cause_of n p))
+    (P.page_reply l (data_of file) c row edition page_limit)
 
 abbrev pub page_made : ColumnArgument → ℕ → ℕ → BinTable → List ℕ → Printed
 page_made column row edition l file = page_of row edition l file (found_column (header_of file) l column)

@@ -11,8 +11,8 @@ ghost use Rattle.turn.specs.Turn.{turn_outcome};
 ghost use Rattle.subcommand.specs.Arguments.{sought_by, asked_by, table_of};
 ghost use Rattle.subcommand.specs.Printed.{printed, printed_by, of_table, of_file, table_limit};
 ghost use Rattle.profile.specs.Page.{reply_of};
-ghost use Rattle.subcommand.specs.Printed.{found_column, page_reply, page_made};
-ghost use Rattle.subcommand.specs.Ways.{area_by, file_by, made_by, page_left};
+ghost use Rattle.subcommand.specs.Printed.{found_column, page_made};
+ghost use Rattle.subcommand.specs.Ways.{area_by, file_by, made_by, reply_for, left_for};
 
 use super::message::{Digits, Message};
 use super::{SoughtColumn, Subcommand, message};
@@ -101,12 +101,12 @@ fn put_page(
     edition: u64,
     out: &mut [u8; OUT_ROOM],
 ) -> Result<usize, Refusal>
-    ensures reply { reply_of result ≡ page_reply layout area.now column row edition }
-    ensures buffer { out.new ≡ page_left layout area.now column row edition out.old }
+    ensures reply { reply_of result ≡ reply_for layout area.now column row edition }
+    ensures buffer { out.new ≡ left_for layout area.now column row edition out.old }
 {
     match column {
         Some(c) => profile::put_page(layout, area, c, row, edition, out),
-        None => Err(Refusal::UnsuitableColumn),
+        None => Err(Refusal::Unsuitable),
     }
 }
 

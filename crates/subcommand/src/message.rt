@@ -56,9 +56,10 @@ the bytes after the last row as they are; turn-back takes such a file and puts e
 byte back.
 
 page writes a line for each item of a column of form E in one row: ROW, the item's
-index and its weight, with one decimal in EDITION 1 and two in EDITION 2, or ten
-stars where that takes more than ten places. COLUMN is an index if it is all digits,
-else a name, in either case. Rows, columns and items are counted from 0.
+index and its weight, with one decimal in EDITION 1 and two in EDITION 2. Ten stars
+stand for an infinity, a NaN and what takes more than ten places. COLUMN is an index
+if it is all digits, else a name, in either case. Rows, columns and items are counted
+from 0.
 
 TABLE is the file of a binary table extension alone, its header and then its data,
 of 2,097,152 bytes at most. One that cannot be read counts as empty. An argument has

@@ -12,7 +12,7 @@ fn no_column<'a>(layout: &BinTable, column: Option<usize>) -> &'a [u8]
     ensures { result.now ≡ column_text layout.now column }
 {
     match column {
-        Some(c) if c < layout.tfields => b"the form of the column is not E (PE and QE are others)",
+        Some(c) if c < layout.tfields => b"the column is not of form E (PE is another form)",
         _ => b"the table has no such column",
     }
 }
@@ -48,11 +48,11 @@ pub fn words<'a>(
         ≡ page_words_with place.now layout.now file.now column edition refusal }
 {
     match refusal {
-        Refusal::UnsuitableColumn => three(no_page(layout, column, edition), b"", b""),
+        Refusal::Unsuitable => three(no_page(layout, column, edition), b"", b""),
         Refusal::ShortList { needed: _ } => three(
             b"the page takes ",
             place,
-            b" bytes, and there is room for 4,194,304, which are 155,344 lines",
+            b" bytes, 27 a line, and there is room for 155,344 lines",
         ),
         _ => words::words(refusal, file, place),
     }

@@ -162,7 +162,7 @@ cause_text place R.NoColumn file = no_column_text
 cause_text place (R.NoSuchRow r) file = row_text place
 cause_text place (R.ArrayOutsideHeap c) file = array_text place
 cause_text place (R.ShortList n) file = list_text place
-cause_text place R.UnsuitableColumn file =
+cause_text place R.Unsuitable file =
     codes "the column is missing or not of a type that is taken here, or there is no such edition"
 cause_text place R.BufferMismatch file = codes "the two buffers differ in length, or are shorter than the table"
 

@@ -86,7 +86,7 @@ pub fn cause<'a>(refusal: Refusal, file: &'a [u8], place: &'a [u8]) -> [&'a [u8]
             place,
             b" cells",
         ),
-        Refusal::UnsuitableColumn => one(NO_SUITABLE_COLUMN),
+        Refusal::Unsuitable => one(NO_SUITABLE_COLUMN),
         Refusal::BufferMismatch => {
             one(b"the two buffers differ in length, or are shorter than the table")
         }

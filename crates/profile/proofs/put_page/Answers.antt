@@ -5,7 +5,7 @@ use Rattle.std.specs.Prelude.{Option, Some, None, Err}
 use Rattle.std.proofs.lemmas.Option.{cond_some}
 use Rattle.ascii.specs.Buffer.{put_in}
 use Rattle.ascii.specs.Text.{bytes}
-use Rattle.refusal.specs.declared.Refusal.TheVariants.{UnsuitableColumn}
+use Rattle.refusal.specs.declared.Refusal.TheVariants.{Unsuitable}
 use Rattle.tform.specs.Width.{among, letter_width}
 use Rattle.layout.specs.declared.Column.{Column}
 use Rattle.layout.specs.declared.BinTable.{BinTable}
@@ -39,10 +39,10 @@ page_lines l a c r ed k e = rw (← e) refl
 
 -- ---- refusals
 
-edition_refused : (c : After-from_residual) → c.from_residual.result ≡ Err UnsuitableColumn
+edition_refused : (c : After-from_residual) → c.from_residual.result ≡ Err Unsuitable
 edition_refused c = search rules
 
-column_refused : (c : After-from_residual-in_err-column) → c.from_residual-in_err-column.result ≡ Err UnsuitableColumn
+column_refused : (c : After-from_residual-in_err-column) → c.from_residual-in_err-column.result ≡ Err Unsuitable
 column_refused c = search rules
 
 pub returns-then-not-fits : goal.returns-then-not-fits
@@ -62,14 +62,14 @@ returns-in_err-edition c =
       page = sym (page_refused a.layout a.area.now a.column a.row a.edition a.page.now 15 0 e);
     }
 
-pub e_column-requires : goal.e_column-requires
-e_column-requires c =
+pub find_e_column-requires : goal.find_e_column-requires
+find_e_column-requires c =
     (limits c.args.layout (fits_layout c.args.layout c.args.area.now (sym c.if-not-fits.ensures))).columns
 
 pub returns-in_err-column : goal.returns-in_err-column
 returns-in_err-column c =
     let a = c.args in
-    let missing = sym c.in_err-column.ensures.ok_part ∙ c.e_column.ensures in
+    let missing = sym c.in_err-column.ensures.ok_part ∙ c.find_e_column.ensures in
     let e = (page_refusals a.layout a.area.now a.column a.row a.edition (length a.page.now)).no_column
     (sym c.if-not-fits.ensures) (column_missing (e_column a.layout a.column) (column_of a.layout a.column) missing) in
     record {
@@ -80,7 +80,7 @@ returns-in_err-column c =
 pub returns-then-layout-row : goal.returns-then-layout-row
 returns-then-layout-row c =
     let a = c.args in
-    let t = column_found a.layout a.column _ _ c.e_column.ensures c.in_ok-column.ensures.ok_part in
+    let t = column_found a.layout a.column _ _ c.find_e_column.ensures c.in_ok-column.ensures.ok_part in
     let good = sym c.edition_of.ensures ∙ c.in_ok-edition.ensures.ok_part in
     let e = (page_refusals a.layout a.area.now a.column a.row a.edition (length a.page.now)).no_row
     c.in_ok-edition.edition (sym c.if-not-fits.ensures) good t.0 c.if-layout-row.true in
@@ -92,7 +92,7 @@ returns-then-layout-row c =
 pub returns-then-page-needed : goal.returns-then-page-needed
 returns-then-page-needed c =
     let a = c.args in
-    let t = column_found a.layout a.column _ _ c.e_column.ensures c.in_ok-column.ensures.ok_part in
+    let t = column_found a.layout a.column _ _ c.find_e_column.ensures c.in_ok-column.ensures.ok_part in
     let good = sym c.edition_of.ensures ∙ c.in_ok-edition.ensures.ok_part in
     let size : c.in_ok-column.column.count * 27 ≡ page_bytes a.layout a.column = rw t.1 (omega arith) in
     let e = (page_refusals a.layout a.area.now a.column a.row a.edition (length a.page.now)).short
@@ -126,7 +126,7 @@ overflow_mul-field c =
     omega (
       arith,
       ends c.args.layout c.args.area.now c.args.column c.args.row _ _ c.if-not-fits.ensures
-          c.e_column.ensures c.in_ok-column.ensures.ok_part c.if-layout-row.false,
+          c.find_e_column.ensures c.in_ok-column.ensures.ok_part c.if-layout-row.false,
     )
 
 pub overflow_add-field : goal.overflow_add-field
@@ -134,7 +134,7 @@ overflow_add-field c =
     omega (
       arith,
       ends c.args.layout c.args.area.now c.args.column c.args.row _ _ c.if-not-fits.ensures
-          c.e_column.ensures c.in_ok-column.ensures.ok_part c.if-layout-row.false,
+          c.find_e_column.ensures c.in_ok-column.ensures.ok_part c.if-layout-row.false,
     )
 
 pub put_lines-requires-clause-row : goal.put_lines-requires-clause-row
@@ -147,7 +147,7 @@ put_lines-requires-clause-few c =
     omega (
       arith,
       few c.args.layout c.args.area.now c.args.column c.args.row _ _ c.if-not-fits.ensures
-          c.e_column.ensures c.in_ok-column.ensures.ok_part c.if-layout-row.false,
+          c.find_e_column.ensures c.in_ok-column.ensures.ok_part c.if-layout-row.false,
     )
 
 pub put_lines-requires-clause-at : goal.put_lines-requires-clause-at
@@ -155,14 +155,14 @@ put_lines-requires-clause-at c =
     omega (
       arith,
       ends c.args.layout c.args.area.now c.args.column c.args.row _ _ c.if-not-fits.ensures
-          c.e_column.ensures c.in_ok-column.ensures.ok_part c.if-layout-row.false,
+          c.find_e_column.ensures c.in_ok-column.ensures.ok_part c.if-layout-row.false,
     )
 
 pub returns : goal.returns
 returns c =
     let a = c.args in
     let ed = c.in_ok-edition.edition in
-    let t = column_found a.layout a.column _ _ c.e_column.ensures c.in_ok-column.ensures.ok_part in
+    let t = column_found a.layout a.column _ _ c.find_e_column.ensures c.in_ok-column.ensures.ok_part in
     let good = sym c.edition_of.ensures ∙ c.in_ok-edition.ensures.ok_part in
     let size : c.in_ok-column.column.count * 27 ≡ page_bytes a.layout a.column = rw t.1 (omega arith) in
     let w = (page_refusals a.layout a.area.now a.column a.row a.edition (length a.page.now)).none
