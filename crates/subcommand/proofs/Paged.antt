@@ -36,8 +36,8 @@ page_by l f (Some c) r n = refl
 
 module _ (l : BinTable) (f : List ℕ) (c : Option ℕ) (r n : ℕ) where
   -- what is printed where the call wrote the page
-  pub page_done : (len : ℕ) (out new : List ℕ) → length out ≡ page_limit → P.wrote len ≡ reply_for l (data_of f) c r n
-      → new ≡ left_for l (data_of f) c r n out
+  pub page_done : (len : ℕ) (out new : List ℕ) → length out ≡ page_limit
+      → P.wrote len ≡ reply_for l (data_of f) c r n → new ≡ left_for l (data_of f) c r n out
       → (done (take len new) ≡ page_of r n l f c) × (len ≡ length (page_of r n l f c).out)
       × (new ≡ put_in out 0 (page_of r n l f c).out)
   page_done len out new size e kept =

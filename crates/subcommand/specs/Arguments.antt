@@ -2,6 +2,7 @@
 -- Assumes nothing.
 use Rattle.std.specs.Prelude.{ℕ, Bool, cond, ◌&&◌, List, [], ◌∷◌, length, eqb, ltb, Option, Some, None}
 use Rattle.std.specs.List.{list_any}
+use Rattle.std.specs.Option.{option_map}
 use Rattle.ascii.specs.Text.{bytes, same, front, digit}
 use Rattle.ascii.specs.Number.{number}
 use Rattle.subcommand.specs.declared.SoughtColumn.{SoughtColumn}
@@ -40,14 +41,9 @@ single (table ∷ more ∷ rest) = None
 abbrev pub all_digits : List ℕ → Bool
 all_digits s = ltb 0 (length s) && eqb (front digit s) (length s)
 
--- an index
-abbrev pub indexed : Option ℕ → Option ColumnArgument
-indexed (Some n) = Some (at_index n)
-indexed None = None
-
 -- the column that an argument says: digits only are an index, below 2^64; all else is a name, an empty one too
 unfoldable pub column_by : List ℕ → Option ColumnArgument
-column_by s = cond (all_digits s) (indexed (number s)) (Some (named s))
+column_by s = cond (all_digits s) (option_map at_index (number s)) (Some (named s))
 
 -- the arguments of a page: the table, the column, the row and the edition
 unfoldable pub page_by : List (List ℕ) → Asked

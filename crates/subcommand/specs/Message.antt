@@ -1,6 +1,7 @@
 -- What standard error gets (FORMAT.md, section 19).
 -- Assumes nothing.
-use Rattle.std.specs.Prelude.{ℕ, List, [], ◌∷◌, ◌++◌, codes, map, cond, ◌||◌, eqb, ltb, Option, Some, None}
+use Rattle.std.specs.Prelude.{ℕ, List, [], ◌∷◌, ◌++◌, codes, map, Bool, false, ◌||◌, cond, eqb, ltb}
+use Rattle.std.specs.Prelude.{Option, Some, None}
 use Rattle.std.specs.List.{concat}
 use Rattle.ascii.specs.Number.{decimal_text}
 use Rattle.refusal.specs.declared.Refusal.{Refusal}
@@ -24,12 +25,13 @@ usage_text =
     ++ codes "page writes a line for each item of a column of form E in one row: ROW, the item's\n"
     ++ codes "index and its weight, with one decimal in EDITION 1 and two in EDITION 2. Ten stars\n"
     ++ codes "stand for an infinity, a NaN and what takes more than ten places. COLUMN is an index\n"
-    ++ codes "if it is all digits, else a name, in either case. Rows, columns and items are counted\n"
-    ++ codes "from 0.\n"
+    ++ codes "if it is all digits, else a name, of which Weight and WEIGHT are the same. Rows,\n"
+    ++ codes "columns and items are counted from 0.\n"
     ++ codes "\n"
     ++ codes "TABLE is the file of a binary table extension alone, its header and then its data,\n"
     ++ codes "of 2,097,152 bytes at most. One that cannot be read counts as empty. An argument has\n"
-    ++ codes "at most 4,095 bytes. docs/FORMAT.md, sections 18 to 20, says more.\n"
+    ++ codes "at most 4,095 bytes, and a subcommand is in small letters. docs/FORMAT.md, sections 18\n"
+    ++ codes "to 20, says more.\n"
     ++ codes "\n"
     ++ codes "Status: 0 all was written; 1 the table was refused or is too long, and standard\n"
     ++ codes "error says why; 2 the arguments are wrong, memory is lacking, or the output cannot\n"
@@ -52,16 +54,18 @@ refused_with number place words =
 abbrev pub refused_text : Refusal → List ℕ → List ℕ
 refused_text r words = refused_with (decimal_text (number_of r)) (decimal_text (place_of r)) words
 
--- why there is no page of this edition and this column, which may not be there
-abbrev pub column_text : BinTable → Option ℕ → List ℕ
-column_text l None = codes "the table has no such column"
-column_text l (Some c) =
-    cond (ltb c l.tfields) (codes "the column is not of form E (PE is another form)")
-    (codes "the table has no such column")
+-- whether a column that was sought is one of the table's
+abbrev pub is_column : BinTable → Option ℕ → Bool
+is_column l None = false
+is_column l (Some c) = ltb c l.tfields
 
+-- why there is no page in an edition of a column that was sought
 unfoldable pub no_page_text : BinTable → Option ℕ → ℕ → List ℕ
 no_page_text l c edition =
-    cond (eqb edition 1 || eqb edition 2) (column_text l c) (codes "there is no edition but 1 and 2")
+    cond (eqb edition 1 || eqb edition 2)
+    (cond (is_column l c) (codes "the column is not of form E (PE is another form)")
+    (codes "the table has no such column"))
+    (codes "there is no edition but 1 and 2")
 
 -- the page has more bytes than the program has room for, by a text of how many those are
 abbrev pub long_page_text : List ℕ → List ℕ

@@ -58,12 +58,13 @@ byte back.
 page writes a line for each item of a column of form E in one row: ROW, the item's
 index and its weight, with one decimal in EDITION 1 and two in EDITION 2. Ten stars
 stand for an infinity, a NaN and what takes more than ten places. COLUMN is an index
-if it is all digits, else a name, in either case. Rows, columns and items are counted
-from 0.
+if it is all digits, else a name, of which Weight and WEIGHT are the same. Rows,
+columns and items are counted from 0.
 
 TABLE is the file of a binary table extension alone, its header and then its data,
 of 2,097,152 bytes at most. One that cannot be read counts as empty. An argument has
-at most 4,095 bytes. docs/FORMAT.md, sections 18 to 20, says more.
+at most 4,095 bytes, and a subcommand is in small letters. docs/FORMAT.md, sections 18
+to 20, says more.
 
 Status: 0 all was written; 1 the table was refused or is too long, and standard
 error says why; 2 the arguments are wrong, memory is lacking, or the output cannot

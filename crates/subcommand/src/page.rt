@@ -1,31 +1,31 @@
 // A refusal of a page in words.
 ghost use Rattle.std.specs.Prelude.{◌≡◌, [], ◌∷◌, map};
 ghost use Rattle.std.specs.List.{concat};
-ghost use Rattle.subcommand.specs.Message.{column_text, no_page_text, page_words_with};
+ghost use Rattle.subcommand.specs.Message.{is_column, no_page_text, page_words_with};
 
 use layout::BinTable;
 use refusal::Refusal;
 use words::PIECES;
 
-// Why a column has no page.
-fn no_column<'a>(layout: &BinTable, column: Option<usize>) -> &'a [u8]
-    ensures { result.now ≡ column_text layout.now column }
+// Whether a column that was sought is one of the table's.
+fn is_column(layout: &BinTable, column: Option<usize>) -> bool
+    ensures { result ≡ is_column layout.now column }
 {
-    match column {
-        Some(c) if c < layout.tfields => b"the column is not of form E (PE is another form)",
-        _ => b"the table has no such column",
-    }
+    column.is_some_and(|c| c < layout.tfields)
 }
 
-// Why there is no page of an edition and a column.
+// Why there is no page in an edition of a column that was sought.
 #[tactic(auto, unfolding(crate::specs::Message::no_page_text))]
 fn no_page<'a>(layout: &BinTable, column: Option<usize>, edition: u64) -> &'a [u8]
     ensures { result.now ≡ no_page_text layout.now column edition }
 {
-    if edition == 1 || edition == 2 {
-        return no_column(layout, column);
+    if edition != 1 && edition != 2 {
+        return b"there is no edition but 1 and 2";
     }
-    b"there is no edition but 1 and 2"
+    if is_column(layout, column) {
+        return b"the column is not of form E (PE is another form)";
+    }
+    b"the table has no such column"
 }
 
 // Words of up to three pieces.
