@@ -14,23 +14,24 @@ use Rattle.subcommand.specs.Printed.{page_limit, done, refused_by, by_reply, pag
 use Rattle.subcommand.specs.Ways.{reply_for, page_for, left_for}
 
 -- the page of a column that may not be there has as many bytes as the call says, which end within the buffer
-page_length : (l : BinTable) (a : List ℕ) (c : Option ℕ) (r n len : ℕ) → reply_for l a c r n ≡ P.wrote len
+sought_length : (l : BinTable) (a : List ℕ) (c : Option ℕ) (r n len : ℕ) → reply_for l a c r n ≡ P.wrote len
     → (len ≡ length (page_for l a c r n)) × (len ≤ page_limit)
-page_length l a None r n len e = cc
-page_length l a (Some c) r n len e =
+sought_length l a None r n len e = cc
+sought_length l a (Some c) r n len e =
     let q = written_is l a c r n page_limit len e in
     rw q.edition (sym q.fills, q.inside)
 
 -- the buffer after the call
-pub page_kept : (l : BinTable) (a : List ℕ) (c r n : ℕ) (out : List ℕ) → length out ≡ page_limit
+pub sought_left : (l : BinTable) (a : List ℕ) (c r n : ℕ) (out : List ℕ) → length out ≡ page_limit
     → P.page_left l a c r n out ≡ left_for l a (Some c) r n out
 unfolding P.page_left
-page_kept l a c r n out size = rw size refl
+sought_left l a c r n out size = rw size refl
 
 -- what is printed goes by the call's answer, also where there is no column
 page_by : (l : BinTable) (f : List ℕ) (c : Option ℕ) (r n : ℕ)
     → page_of r n l f c
-    ≡ by_reply (page_for l (data_of f) c r n) (λ k p. page_words l f c n (cause_of k p)) (reply_for l (data_of f) c r n)
+    ≡ by_reply (page_for l (data_of f) c r n) (λ k p. page_words l f c n (cause_of k p))
+    (reply_for l (data_of f) c r n)
 page_by l f None r n = refl
 page_by l f (Some c) r n = refl
 
@@ -42,7 +43,7 @@ module _ (l : BinTable) (f : List ℕ) (c : Option ℕ) (r n : ℕ) where
       × (new ≡ put_in out 0 (page_of r n l f c).out)
   page_done len out new size e kept =
       let t = page_for l (data_of f) c r n in
-      let q = page_length l (data_of f) c r n len (sym e) in
+      let q = sought_length l (data_of f) c r n len (sym e) in
       let put : new ≡ put_in out 0 t = kept ∙ rw (sym e) refl in
       let text : take len new ≡ t = front out t (omega (arith, q.1, size)) (omega (arith, q.0), put) in
       rw (page_by l f c r n, sym e) (ap done text, q.0, put)

@@ -93,7 +93,7 @@ fn find_column(header: &[u8], layout: BinTable, column: SoughtColumn) -> Option<
 }
 
 // Puts the page of a row of a column to the front of the buffer, unless it is refused, as where there is no column.
-fn put_page(
+fn put_profile(
     layout: BinTable,
     area: &[u8],
     column: Option<usize>,
@@ -126,7 +126,7 @@ fn of_page<'a>(
 {
     let (header, area) = header::split_file(file);
     let found = find_column(header, layout, column);
-    match put_page(layout, area, found, row, edition, out) {
+    match put_profile(layout, area, found, row, edition, out) {
         Ok(len) => Answer {
             len,
             message: message::nothing(),

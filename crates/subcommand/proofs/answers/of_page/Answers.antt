@@ -17,15 +17,15 @@ abbrev made : After-nothing → Printed
 made c = page_made (sought_by c.args.column) c.args.row c.args.edition c.args.layout c.args.file.now
 
 wrote : (c : After-nothing)
-    → (done (take c.in-Ok.len c.put_page.new.out) ≡ made c) × (c.in-Ok.len ≡ length (made c).out)
-    × (c.put_page.new.out ≡ put_in c.args.out.now 0 (made c).out)
+    → (done (take c.in-Ok.len c.put_profile.new.out) ≡ made c) × (c.in-Ok.len ≡ length (made c).out)
+    × (c.put_profile.new.out ≡ put_in c.args.out.now 0 (made c).out)
 wrote c =
     let a = c.args in
     let e = c.in-Ok.ensures in
     let s = c.split_file.ensures in
     let found = c.find_column-found.ensures in
     rw (sym s.header, sym found)
-    (page_done a.layout a.file.now c.find_column-found.result a.row a.edition c.in-Ok.len a.out.now c.put_page.new.out
+    (page_done a.layout a.file.now c.find_column-found.result a.row a.edition c.in-Ok.len a.out.now c.put_profile.new.out
     c.told-out (rw (sym s.data) e.reply) (rw (sym s.data) e.buffer))
 
 pub returns-in-Ok-clause-printed : goal.returns-in-Ok-clause-printed
