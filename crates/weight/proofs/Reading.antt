@@ -146,6 +146,15 @@ near_within ed s num den k h w =
       sign = rw r.says r.sign;
     }
 
+-- the text of the units of a single float says its exact value, if it is a number
+pub units_within : (ed : Edition) (s : Bool) (m : ℕ) (e : ℤ) → T (fits binary32 (fin s m e))
+    → WithinHalf ed s (m * up e) (down e) (units_text ed s (units_of ed m e))
+units_within ed s m e f =
+    let k = units_of ed m e in
+    let w = rounded_near ed (m * up e * 10 ^ decimals ed) (down e) (down_pos e) in
+    near_within ed s (m * up e) (down e) k
+    (units_lt ed (m * up e) (down e) k (down_pos e) (single_le s m e f) w) w
+
 -- the text of every value that a single float has
 value_says : (ed : Edition) (v : Float) → T (fits binary32 v)
     → (weight_text ed v ≡ stars) ⊎ Says ed v (weight_text ed v)
@@ -153,12 +162,9 @@ unfolding weight_text
 value_says ed nan f = inl refl
 value_says ed (inf s) f = inl refl
 value_says ed (fin s m e) f =
-    let k = units_of ed m e in
-    let w = rounded_near ed (m * up e * 10 ^ decimals ed) (down e) (down_pos e) in
-    let few = units_lt ed (m * up e) (down e) k (down_pos e) (single_le s m e f) w in
     by_test (λ (t : List ℕ). (t ≡ stars) ⊎ WithinHalf ed s (m * up e) (down e) t)
-    (leb (length (units_text ed s k)) 10)
-    (λ t. inr (near_within ed s (m * up e) (down e) k few w))
+    (leb (length (units_text ed s (units_of ed m e))) 10)
+    (λ t. inr (units_within ed s m e f))
     (λ t. inl refl)
 
 -- the text of every bit pattern is ten stars or says the float's exact value

@@ -1,13 +1,15 @@
--- The text of a weight is ten stars exactly where the weight has no text of ten places; else it says the exact value.
+-- The text of a weight is ten stars only where the weight has no text of ten places; else it says the exact value.
 -- Assumes nothing.
 use Prim.Native.Nat.{ℕ, ◌/◌, ◌^◌}
-use mathlib.Core.Path.{◌≡◌, refl, sym, ap, ◌∙◌}
+use mathlib.Core.Path.{◌≡◌, sym, ap, ◌∙◌}
 use mathlib.Core.Bool.{Bool, false, true≢false, and-false}
 use mathlib.Core.List.{List, ◌∷◌, ◌++◌, append_assoc}
 use mathlib.Core.Logic.{◌⊎◌, inl, inr}
 use lib.ListN.{length}
-use lib.Dec.{eqb, leb}
-use borrow.Author.Tests.{leb-false, lt-leb}
+use lib.Dec.{T, eqb, leb}
+use lib.Ieee.{fits}
+use lib.Ieee.Bits.{of_bits-fits}
+use borrow.Author.Tests.{leb-false}
 use Rattle.std.specs.Prelude.{Float}
 use Rattle.std.specs.Float.{nan, inf, fin, binary32}
 use Rattle.std.specs.Float.Ieee.{of_bits}
@@ -18,7 +20,7 @@ use Rattle.ascii.proofs.Cases.{either}
 use Rattle.weight.specs.declared.Edition.{Edition}
 use Rattle.weight.specs.Weight.{decimals, sign_text, last_digits, stars, units_of, units_text, weight_text}
 use Rattle.weight.specs.Reading.{Says, Unwritable}
-use Rattle.weight.proofs.Reading.{weight_says}
+use Rattle.weight.proofs.Reading.{units_within, weight_says}
 
 abbrev star : ℕ → Bool
 star b = eqb b 42
@@ -37,21 +39,20 @@ not_stars ed s units e =
     ∙ pointed (sign_text s units ++ whole) fraction in
     true≢false (sym (ap (list_all star) e) ∙ p)
 
-pub stars_only : (ed : Edition) (v : Float) → weight_text ed v ≡ stars → Unwritable ed v
+value_stars : (ed : Edition) (v : Float) → T (fits binary32 v) → weight_text ed v ≡ stars → Unwritable ed v
 unfolding weight_text
-stars_only ed nan e = tt
-stars_only ed (inf s) e = tt
-stars_only ed (fin s m x) e =
-    let text = units_text ed s (units_of ed m x) in
+value_stars ed nan f e = tt
+value_stars ed (inf s) f e = tt
+value_stars ed (fin s m x) f e =
+    let units = units_of ed m x in
+    let text = units_text ed s units in
     either (leb (length text) 10)
-    (λ t. absurd (not_stars ed s (units_of ed m x) (rw t at e)))
-    (λ t. leb-false (length text) 10 t)
+    (λ t. absurd (not_stars ed s units (rw t at e)))
+    (λ t. record { text = text; near = units_within ed s m x f; long = leb-false (length text) 10 t })
 
-pub unwritable_stars : (ed : Edition) (v : Float) → Unwritable ed v → weight_text ed v ≡ stars
-unfolding weight_text
-unwritable_stars ed nan h = refl
-unwritable_stars ed (inf s) h = refl
-unwritable_stars ed (fin s m x) h = rw (lt-leb (length (units_text ed s (units_of ed m x))) 10 h)
+pub stars_only : (ed : Edition) (bits : ℕ) → weight_text ed (of_bits binary32 bits) ≡ stars
+    → Unwritable ed (of_bits binary32 bits)
+stars_only ed bits e = value_stars ed (of_bits binary32 bits) (of_bits-fits binary32 bits) e
 
 -- so the text of every bit pattern is ten stars, and no text of ten places says the float, or says its exact value
 pub weight_or_stars : (ed : Edition) (bits : ℕ)
@@ -64,5 +65,5 @@ weight_or_stars ed bits = by (weight_says ed bits)
 
     by : (weight_text ed v ≡ stars) ⊎ Says ed v (weight_text ed v)
         → ((weight_text ed v ≡ stars) × Unwritable ed v) ⊎ Says ed v (weight_text ed v)
-    by (inl e) = inl (e, stars_only ed v e)
+    by (inl e) = inl (e, stars_only ed bits e)
     by (inr s) = inr s

@@ -8,7 +8,7 @@ use Rattle.std.specs.Float.Ieee.{up, down}
 use Rattle.std.specs.List.{list_all}
 use Rattle.ascii.specs.Text.{digit, decimal}
 use Rattle.weight.specs.declared.Edition.{Edition}
-use Rattle.weight.specs.Weight.{decimals, units_text, units_of}
+use Rattle.weight.specs.Weight.{decimals}
 
 -- a text that is a number: a minus or none, digits, a point, digits; before the point one digit or more, and no zero
 -- (48) in front of others
@@ -40,8 +40,14 @@ Says ed nan text = ⊥
 Says ed (inf s) text = ⊥
 Says ed (fin s m e) text = WithinHalf ed s (m * up e) (down e) text
 
--- a float that has no text of ten places: it is no number, or its text is longer
+-- a text that says num / den so, and is longer than ten places
+pub record TooLong (ed : Edition) (s : Bool) (num den : ℕ) : Type 0 where
+  pub text : List ℕ
+  pub near : WithinHalf ed s num den text
+  pub long : 10 < length text
+
+-- a float that has no text of ten places: it is no number, or a text that says it is too long
 abbrev pub Unwritable : Edition → Float → Type 0
 Unwritable ed nan = Unit {0}
 Unwritable ed (inf s) = Unit {0}
-Unwritable ed (fin s m e) = 10 < length (units_text ed s (units_of ed m e))
+Unwritable ed (fin s m e) = TooLong ed s (m * up e) (down e)
