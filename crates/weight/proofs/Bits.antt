@@ -15,30 +15,30 @@ use lib.Ieee.Fits.{down_pos}
 use borrow.Author.Tests.{ltb-true, ltb-false, ne_eqb}
 use Rattle.ascii.proofs.Cases.{either, by_test}
 use Rattle.weight.specs.declared.Edition.{Edition}
-use Rattle.weight.specs.Weight.{decimals, rounded, units_text, fitted, stars, weight_text}
+use Rattle.weight.specs.Weight.{decimals, rounded, units_text, in_places, stars, weight_text}
 use Rattle.weight.specs.Code.{sign_bit, text_by}
 use Rattle.weight.proofs.Rounded.{rounded_same, rounded_whole}
 use Rattle.weight.proofs.Long.{too_long}
 
 -- the text of a / b, below zero where s is true
-abbrev pub text_of : Edition → Bool → ℕ → ℕ → List ℕ
-text_of ed s a b = fitted (units_text ed s (rounded ed (a * 10 ^ decimals ed) b))
+abbrev pub fraction_text : Edition → Bool → ℕ → ℕ → List ℕ
+fraction_text ed s a b = in_places (units_text ed s (rounded ed (a * 10 ^ decimals ed) b))
 
 module _ (ed : Edition) (s : Bool) (a b c d : ℕ) (B : 0 < b) (D : 0 < d) where
   -- equal fractions have the same text
-  same_text : a * d ≡ c * b → text_of ed s a b ≡ text_of ed s c d
+  same_text : a * d ≡ c * b → fraction_text ed s a b ≡ fraction_text ed s c d
   same_text h =
       let p = 10 ^ decimals ed in
       let e : a * p * d ≡ c * p * b = mul_right_comm a p d ∙ ap (λ (x : ℕ). x * p) h ∙ mul_right_comm c b p in
-      ap (λ (k : ℕ). fitted (units_text ed s k)) (rounded_same ed (a * p) b (c * p) d B D e)
+      ap (λ (k : ℕ). in_places (units_text ed s k)) (rounded_same ed (a * p) b (c * p) d B D e)
 
 pub value_text : (ed : Edition) (v : Float) (s : Bool) (a b : ℕ) → 0 < b → HasValue v s a b
-    → weight_text ed v ≡ text_of ed s a b
+    → weight_text ed v ≡ fraction_text ed s a b
 unfolding weight_text
 value_text ed nan s a b B h = absurd h
 value_text ed (inf t) s a b B h = absurd h
 value_text ed (fin t m e) s a b B h =
-    ap (λ (u : Bool). text_of ed u (m * up e) (down e)) h.0
+    ap (λ (u : Bool). fraction_text ed u (m * up e) (down e)) h.0
     ∙ same_text ed s (m * up e) (down e) a b (down_pos e) B h.1
 
 -- ---- the fields of the bits
@@ -94,7 +94,7 @@ large q z p h l =
 module _ (ed : Edition) (bits : ℕ) where
   -- by a fraction that is the value
   normal_text : (x c d : ℕ) → exponent bits ≡ suc x → x < 254 → 0 < d → significand bits * 2 ^ x * d ≡ c * 2 ^ 149
-      → weight_text ed (float bits) ≡ text_of ed (sign_bit bits) c d
+      → weight_text ed (float bits) ≡ fraction_text ed (sign_bit bits) c d
   normal_text x c d e h D f =
       let s = sign_bit bits in
       let n = significand bits * 2 ^ x in
@@ -103,13 +103,13 @@ module _ (ed : Edition) (bits : ℕ) where
 
   -- the exponent's field is 0
   pub small_text : exponent bits ≡ 0
-      → weight_text ed (float bits) ≡ text_of ed (sign_bit bits) (fraction bits) (2 ^ 149)
+      → weight_text ed (float bits) ≡ fraction_text ed (sign_bit bits) (fraction bits) (2 ^ 149)
   small_text e =
       value_text ed (float bits) (sign_bit bits) (fraction bits) (2 ^ 149) (pow_pos 149) (small_value bits e)
 
   -- 1 to 150
   pub shifted_text : (y : ℕ) → exponent bits + y ≡ 150 → 0 < exponent bits
-      → weight_text ed (float bits) ≡ text_of ed (sign_bit bits) (significand bits) (2 ^ y)
+      → weight_text ed (float bits) ≡ fraction_text ed (sign_bit bits) (significand bits) (2 ^ y)
   shifted_text y e h =
       let q = significand bits in
       let x = exponent bits - 1 in

@@ -12,79 +12,79 @@ use Rattle.weight.specs.declared.Edition.TheVariants.{One, Two}
 use Rattle.weight.specs.Weight.{rounded, last_digits, units_text, stars, weight_text}
 
 -- the text of the float that some bits are
-abbrev text_of : Edition → ℕ → List ℕ
-text_of ed bits = weight_text ed (of_bits binary32 bits)
+abbrev shown : Edition → ℕ → List ℕ
+shown ed bits = weight_text ed (of_bits binary32 bits)
 
 -- 80.125
-eighth_one : text_of One 0x42A04000 ≡ codes "80.1"
+eighth_one : shown One 0x42A04000 ≡ codes "80.1"
 unfolding weight_text units_text rounded last_digits decimal_in stars of_bits
 eighth_one = refl
 
-eighth_two : text_of Two 0x42A04000 ≡ codes "80.12"
+eighth_two : shown Two 0x42A04000 ≡ codes "80.12"
 unfolding weight_text units_text rounded last_digits decimal_in stars of_bits
 eighth_two = refl
 
 -- 80.25, -80.25 and 80.375: halfway
-quarter_one : text_of One 0x42A08000 ≡ codes "80.3"
+quarter_one : shown One 0x42A08000 ≡ codes "80.3"
 unfolding weight_text units_text rounded last_digits decimal_in stars of_bits
 quarter_one = refl
 
-minus_quarter_one : text_of One 0xC2A08000 ≡ codes "-80.3"
+minus_quarter_one : shown One 0xC2A08000 ≡ codes "-80.3"
 unfolding weight_text units_text rounded last_digits decimal_in stars of_bits
 minus_quarter_one = refl
 
-three_eighths_two : text_of Two 0x42A0C000 ≡ codes "80.38"
+three_eighths_two : shown Two 0x42A0C000 ≡ codes "80.38"
 unfolding weight_text units_text rounded last_digits decimal_in stars of_bits
 three_eighths_two = refl
 
 -- the float nearest to -0.04, and -0.0: a zero has no minus
-rounded_zero : text_of One 0xBD23D70A ≡ codes "0.0"
+rounded_zero : shown One 0xBD23D70A ≡ codes "0.0"
 unfolding weight_text units_text rounded last_digits decimal_in stars of_bits
 rounded_zero = refl
 
-minus_zero : text_of One 0x80000000 ≡ codes "0.0"
+minus_zero : shown One 0x80000000 ≡ codes "0.0"
 unfolding weight_text units_text rounded last_digits decimal_in stars of_bits
 minus_zero = refl
 
-minus_zero_two : text_of Two 0x80000000 ≡ codes "0.00"
+minus_zero_two : shown Two 0x80000000 ≡ codes "0.00"
 unfolding weight_text units_text rounded last_digits decimal_in stars of_bits
 minus_zero_two = refl
 
 -- 99999992, the largest float below 10 ^ 8, and 10 ^ 8
-widest_one : text_of One 0x4CBEBC1F ≡ codes "99999992.0"
+widest_one : shown One 0x4CBEBC1F ≡ codes "99999992.0"
 unfolding weight_text units_text rounded last_digits decimal_in stars of_bits
 widest_one = refl
 
-wide_two : text_of Two 0x4CBEBC1F ≡ stars
+wide_two : shown Two 0x4CBEBC1F ≡ stars
 unfolding weight_text units_text rounded last_digits decimal_in stars of_bits
 wide_two = refl
 
-too_wide_one : text_of One 0x4CBEBC20 ≡ stars
+too_wide_one : shown One 0x4CBEBC20 ≡ stars
 unfolding weight_text units_text rounded last_digits decimal_in stars of_bits
 too_wide_one = refl
 
 -- below zero, a place less: -9999999 and the next float, -10000000
-widest_minus : text_of One 0xCB18967F ≡ codes "-9999999.0"
+widest_minus : shown One 0xCB18967F ≡ codes "-9999999.0"
 unfolding weight_text units_text rounded last_digits decimal_in stars of_bits
 widest_minus = refl
 
-too_wide_minus : text_of One 0xCB189680 ≡ stars
+too_wide_minus : shown One 0xCB189680 ≡ stars
 unfolding weight_text units_text rounded last_digits decimal_in stars of_bits
 too_wide_minus = refl
 
 -- the largest float, a NaN and both infinities
-largest : text_of One 0x7F7FFFFF ≡ stars
+largest : shown One 0x7F7FFFFF ≡ stars
 unfolding weight_text units_text rounded last_digits decimal_in stars of_bits
 largest = refl
 
-not_a_number : text_of One 0x7FC00000 ≡ codes "**********"
+not_a_number : shown One 0x7FC00000 ≡ codes "**********"
 unfolding weight_text units_text rounded last_digits decimal_in stars of_bits
 not_a_number = refl
 
-infinite : text_of One 0x7F800000 ≡ stars
+infinite : shown One 0x7F800000 ≡ stars
 unfolding weight_text units_text rounded last_digits decimal_in stars of_bits
 infinite = refl
 
-minus_infinite : text_of Two 0xFF800000 ≡ stars
+minus_infinite : shown Two 0xFF800000 ≡ stars
 unfolding weight_text units_text rounded last_digits decimal_in stars of_bits
 minus_infinite = refl

@@ -11,7 +11,7 @@ use borrow.Author.Tests.{lt-leb}
 use Rattle.ascii.specs.Number.{decimal_in}
 use Rattle.weight.specs.declared.Edition.{Edition}
 use Rattle.weight.specs.declared.Edition.TheVariants.{One, Two}
-use Rattle.weight.specs.Weight.{decimals, rounded, last_digits, units_text, fitted, stars}
+use Rattle.weight.specs.Weight.{decimals, rounded, last_digits, units_text, in_places, stars}
 use Rattle.weight.proofs.Rounded.{Near, rounded_near}
 use Rattle.weight.proofs.Digits.{digits_least}
 
@@ -50,7 +50,7 @@ many Two a b q B l w =
 
 -- a value of 100,000,000 or more
 pub too_long : (ed : Edition) (s : Bool) (a b : ℕ) → 0 < b → 100000000 * b ≤ a
-    → fitted (units_text ed s (rounded ed (a * 10 ^ decimals ed) b)) ≡ stars
+    → in_places (units_text ed s (rounded ed (a * 10 ^ decimals ed) b)) ≡ stars
 too_long ed s a b B h =
     let p = a * 10 ^ decimals ed in
     let q = rounded ed p b in

@@ -83,7 +83,7 @@ decimal_units Two units h =
 -- not 0
 pub record ReadAs (ed : Edition) (s : Bool) (units : ℕ) (text : List ℕ) : Type 0 where
   pub number : Number text
-  pub places : length number.fraction ≡ decimals ed
+  pub places : length number.after ≡ decimals ed
   pub says : said number ≡ units
   pub sign : number.negative ≡ (s && ltb 0 units)
 
@@ -92,17 +92,17 @@ pub units_read : (ed : Edition) (s : Bool) (units : ℕ) → units < 10 ^ (39 + 
 unfolding units_text
 units_read ed s units h =
     let n = units / 10 ^ decimals ed in
-    let whole = decimal_in 39 n in
-    let fraction = last_digits (decimals ed) units in
+    let before = decimal_in 39 n in
+    let after = last_digits (decimals ed) units in
     record {
       number = record {
         negative = s && ltb 0 units;
-        whole = whole;
-        fraction = fraction;
+        before = before;
+        after = after;
         parts = refl;
         some = some_digit 38 n;
         plain = no_zero 38 n (whole_below ed units h);
-        digits = rw (list_all-append digit whole fraction, in_digits 39 n, last_all (decimals ed) units);
+        digits = rw (list_all-append digit before after, in_digits 39 n, last_all (decimals ed) units);
       };
       places = last_length ed units;
       says = decimal_units ed units h;

@@ -32,11 +32,11 @@ pointed xs ys = list_all-append star xs (46 ∷ ys) ∙ and-false (list_all star
 not_stars : (ed : Edition) (s : Bool) (units : ℕ) → units_text ed s units ≡ stars → ⊥
 unfolding units_text stars
 not_stars ed s units e =
-    let whole = decimal_in 39 (units / 10 ^ decimals ed) in
-    let fraction = last_digits (decimals ed) units in
-    let p : list_all star (sign_text s units ++ (whole ++ (46 ∷ fraction))) ≡ false =
-    ap (list_all star) (sym (append_assoc (sign_text s units) whole (46 ∷ fraction)))
-    ∙ pointed (sign_text s units ++ whole) fraction in
+    let before = decimal_in 39 (units / 10 ^ decimals ed) in
+    let after = last_digits (decimals ed) units in
+    let p : list_all star (sign_text s units ++ (before ++ (46 ∷ after))) ≡ false =
+    ap (list_all star) (sym (append_assoc (sign_text s units) before (46 ∷ after)))
+    ∙ pointed (sign_text s units ++ before) after in
     true≢false (sym (ap (list_all star) e) ∙ p)
 
 value_stars : (ed : Edition) (v : Float) → T (fits binary32 v) → weight_text ed v ≡ stars → Unwritable ed v

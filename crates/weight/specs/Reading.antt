@@ -14,22 +14,22 @@ use Rattle.weight.specs.Weight.{decimals}
 -- (48) in front of others
 pub record Number (text : List ℕ) : Type 0 where
   pub negative : Bool
-  pub whole : List ℕ
-  pub fraction : List ℕ
-  pub parts : text ≡ cond negative (45 ∷ []) [] ++ (whole ++ (46 ∷ fraction))
-  pub some : 0 < length whole
-  pub plain : 1 < length whole → 48 < get_or whole 0 48
-  pub digits : list_all digit (whole ++ fraction) ≡ true
+  pub before : List ℕ
+  pub after : List ℕ
+  pub parts : text ≡ cond negative (45 ∷ []) [] ++ (before ++ (46 ∷ after))
+  pub some : 0 < length before
+  pub plain : 1 < length before → 48 < get_or before 0 48
+  pub digits : list_all digit (before ++ after) ≡ true
 
 -- the units of its last decimal that it says
 abbrev pub said : {text : List ℕ} → Number text → ℕ
-said n = decimal 0 (n.whole ++ n.fraction)
+said n = decimal 0 (n.before ++ n.after)
 
 -- a text that is a number with the edition's decimals, within half a last place of num / den, which is below zero
 -- where s is true; a zero has no minus
 pub record WithinHalf (ed : Edition) (s : Bool) (num den : ℕ) (text : List ℕ) : Type 0 where
   pub number : Number text
-  pub places : length number.fraction ≡ decimals ed
+  pub places : length number.after ≡ decimals ed
   pub high : said number * den * 2 ≤ num * 10 ^ decimals ed * 2 + den
   pub low : num * 10 ^ decimals ed * 2 ≤ said number * den * 2 + den
   pub sign : number.negative ≡ (s && ltb 0 (said number))

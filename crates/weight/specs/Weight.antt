@@ -48,12 +48,12 @@ units_text ed negative units =
 unfoldable pub stars : List ℕ
 stars = replicate 10 42
 
--- a text over 10 places is ten stars
-abbrev pub fitted : List ℕ → List ℕ
-fitted text = cond (leb (length text) 10) text stars
+-- a text of ten places at most, or ten stars
+abbrev pub in_places : List ℕ → List ℕ
+in_places text = cond (leb (length text) 10) text stars
 
 -- the text of a weight
 unfoldable pub weight_text : Edition → Float → List ℕ
 weight_text ed nan = stars
 weight_text ed (inf s) = stars
-weight_text ed (fin s m e) = fitted (units_text ed s (units_of ed m e))
+weight_text ed (fin s m e) = in_places (units_text ed s (units_of ed m e))

@@ -19,7 +19,7 @@ pub enum Edition {
 }
 
 // The places of a weight.
-pub const PLACES: usize = 10;
+const PLACES: usize = 10;
 
 // What is written where there is no text of that many places.
 const STARS: &[u8; PLACES] = b"**********";
@@ -62,10 +62,10 @@ fn put_units(out: &mut [u8; ROOM], edition: Edition, negative: bool, units: u64)
     ensures len { result ≡ length (units_text edition negative units) }
     ensures text { take result out.new ≡ units_text edition negative units }
 {
-    let whole = ascii::buffer::put(out, 0, sign(negative, units));
-    let point = ascii::digits::put_decimal(out, whole, units / units::scale(edition));
-    let fraction = ascii::buffer::put(out, point, b".");
-    put_decimals(out, fraction, edition, units)
+    let after_sign = ascii::buffer::put(out, 0, sign(negative, units));
+    let after_whole = ascii::digits::put_decimal(out, after_sign, units / units::scale(edition));
+    let after_point = ascii::buffer::put(out, after_whole, b".");
+    put_decimals(out, after_point, edition, units)
 }
 
 // Writes the text of a weight, whose stored bits are given, to the first ten bytes of a field, with spaces in front of

@@ -60,10 +60,10 @@ texts_put o ed negative units {p1} {p2} {p3} {p4} {o1} {o2} {o3} {o4} l few t1 t
 pub returns : goal.returns
 returns c =
     let a = c.args in
-    let put = c.put-whole.ensures in
+    let put = c.put-after_sign.ensures in
     let first = tried_as a.out.now 0 c.sign.ensures (put.place, put.buffer) in
-    let whole = rw c.scale.ensures at c.put_decimal-point.ensures in
-    let point = c.put-fraction.ensures in
+    let whole = rw c.scale.ensures at c.put_decimal-after_whole.ensures in
+    let point = c.put-after_point.ensures in
     let last = c.put_decimals.ensures in
     let texts =
     texts_put a.out.now a.edition a.negative a.units c.told-out c.requires first
