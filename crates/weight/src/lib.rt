@@ -24,8 +24,8 @@ const PLACES: usize = 10;
 // What is written where there is no text of that many places.
 const STARS: &[u8; PLACES] = b"**********";
 
-// The most bytes of the text of some units below 10^12.
-const ROOM: usize = 16;
+// The most bytes of a text that is tried: a minus, the eleven digits of units below 2^34, and the point.
+const ROOM: usize = 13;
 
 // The sign bit.
 const SIGN: u32 = 2147483648;
@@ -56,9 +56,9 @@ fn sign<'a>(negative: bool, units: u64) -> &'a [u8]
     if negative && 0 < units { b"-" } else { b"" }
 }
 
-// The text of some units, to the front of a buffer that has room for it.
+// The text of some units, to the front of a buffer. The bound is that of `units::of_bits`.
 fn put_units(out: &mut [u8; ROOM], edition: Edition, negative: bool, units: u64) -> usize
-    requires { units < 1000000000000 }
+    requires { units < 17179869184 }
     ensures len { result ≡ length (units_text edition negative units) }
     ensures text { take result out.new ≡ units_text edition negative units }
 {

@@ -7,16 +7,17 @@ ghost use Rattle.weight.specs.Code.{sign_bit, text_by};
 
 use super::Edition;
 
-// A float's bits: the bits of its fraction, and the exponent of the values that are 1 and more, from which on each
-// value is a whole number, and from which on it has nine digits.
+// How many values the bits of the fraction have.
 const FRACTION: u32 = 8388608;
 
+// The exponent's field from which on each value is a whole number.
 const WHOLE: u32 = 150;
 
+// That from which on it has nine digits before the point, so its text is too long in each edition.
 const NINE_DIGITS: u32 = 154;
 
-// The shift from which on the value of a float is less than half a unit in each edition.
-const NOTHING_LEFT: u32 = 40;
+// The shift from which on less than half a unit is left: a significand times 100 is below 2^31.
+const NOTHING_LEFT: u32 = 32;
 
 // The units in one.
 pub fn scale(edition: Edition) -> u64
@@ -42,7 +43,7 @@ fn halfway(edition: Edition, below: u64) -> u64
 // A number divided by a power of two, to the nearest whole number.
 fn rounded(edition: Edition, num: u64, shift: u32) -> u64
     requires num { num < 4294967296 }
-    requires shift { shift ≤ 40 }
+    requires shift { shift < 32 }
     ensures { result ≡ rounded edition num (2 ^ shift) }
 {
     let below = num >> shift;
@@ -63,14 +64,15 @@ fn shifted(edition: Edition, significand: u32, shift: u32) -> u64
     ensures units { result ≡ rounded edition (significand * 10 ^ decimals edition) (2 ^ shift) }
     ensures bound { result < 17179869184 }
 {
-    if shift > NOTHING_LEFT {
+    if shift >= NOTHING_LEFT {
         return 0;
     }
     rounded(edition, significand as u64 * scale(edition), shift)
 }
 
-// A float by its bits, in units, its sign aside; none where its text has more than ten places, and where it is no
-// number. More than ten places may be found in the text of those that it gives, too.
+// A float by its bits, in units, its sign aside: below 2^34, since a significand is below 2^24 and it is taken 8 times
+// 100 times at most. None where it is no number or has nine digits before its point by its exponent; the text of the
+// others may be too long too.
 pub fn of_bits(edition: Edition, bits: u32) -> Option<u64>
     ensures text { weight_text edition (of_bits binary32 bits) ≡ text_by edition (sign_bit bits) result }
     ensures bound { IfSome result (λ units. units < 17179869184) }

@@ -1,5 +1,5 @@
--- `put_units` meets its contract: it puts four texts one after the other, of 15 bytes at most.
-use Rattle.std.proofs.Common.{◌≡◌, ◌≤◌, ◌<◌, ◌+◌, ◌/◌, ◌^◌, ℕ, Bool, ◌&&◌, List, [], ◌∷◌, ◌++◌, length, take}
+-- `put_units` meets its contract: it puts four texts one after the other, of 13 bytes at most.
+use Rattle.std.proofs.Common.{◌≡◌, ◌≤◌, ◌<◌, ◌+◌, ◌-◌, ◌/◌, ◌^◌, ℕ, Bool, ◌&&◌, List, [], ◌∷◌, ◌++◌, length, take}
 use Rattle.std.proofs.Common.{ap, sym, ◌∙◌, arith}
 use lib.Dec.{ltb}
 use lib.ListN.{length-append}
@@ -26,7 +26,7 @@ next o at s t {p} {o'} {q} {o''} h first rest =
     let r = rest (omega (arith, f.0)) in
     joined o at s t (omega (arith, f.0, r.0)) f r
 
-whole_below : (ed : Edition) (units : ℕ) → units < 1000000000000 → units / 10 ^ decimals ed < 10 ^ 11
+whole_below : (ed : Edition) (units : ℕ) → units < 17179869184 → units / 10 ^ decimals ed < 10 ^ (11 - decimals ed)
 whole_below One units h = omega arith
 whole_below Two units h = omega arith
 
@@ -34,9 +34,9 @@ sign_length : (negative : Bool) (units : ℕ) → length (sign_text negative uni
 sign_length negative units =
     by_test (λ (s : List ℕ). length s ≤ 1) (negative && ltb 0 units) (λ t. omega arith) (λ t. omega arith)
 
--- the four texts, in a buffer of 16 bytes
+-- the four texts, in a buffer of 13 bytes
 texts_put : (o : List ℕ) (ed : Edition) (negative : Bool) (units : ℕ) {p1 p2 p3 p4 : ℕ} {o1 o2 o3 o4 : List ℕ}
-    → length o ≡ 16 → units < 1000000000000 → Tried o 0 (sign_text negative units) p1 o1
+    → length o ≡ 13 → units < 17179869184 → Tried o 0 (sign_text negative units) p1 o1
     → Tried o1 p1 (decimal_text (units / 10 ^ decimals ed)) p2 o2 → Tried o2 p2 (46 ∷ []) p3 o3
     → Tried o3 p3 (last_digits (decimals ed) units) p4 o4
     → (p4 ≡ length (units_text ed negative units)) × (take p4 o4 ≡ units_text ed negative units)
@@ -46,11 +46,12 @@ texts_put o ed negative units {p1} {p2} {p3} {p4} {o1} {o2} {o3} {o4} l few t1 t
     let s = sign_text negative units in
     let w = decimal_in 39 n in
     let d = last_digits (decimals ed) units in
-    let below : n < 10 ^ 11 = whole_below ed units few in
+    let below : n < 10 ^ (11 - decimals ed) = whole_below ed units few in
     let same : decimal_text n ≡ w = sym (decimal_enough 19 38 n (omega arith) (omega arith)) in
-    let wl : length w ≤ 11 = few_digits 39 11 n (omega arith) (omega arith) in
-    let short : length (s ++ (w ++ (46 ∷ d))) ≤ 16 =
-    simp length-append (omega (arith, sign_length negative units, last_length ed units, decimals_range ed)) in
+    let r = decimals_range ed in
+    let wl : length w ≤ 11 - decimals ed = few_digits 39 (11 - decimals ed) n below (omega (arith, r)) in
+    let short : length (s ++ (w ++ (46 ∷ d))) ≤ 13 =
+    simp length-append (omega (arith, sign_length negative units, last_length ed units, r)) in
     let put : Put o 0 (s ++ (w ++ (46 ∷ d))) p4 o4 =
     next o 0 s (w ++ (46 ∷ d)) (omega arith) t1
     (λ r1. next o1 p1 w (46 ∷ d) r1 (tried_as o1 p1 same t2)

@@ -1,12 +1,12 @@
 -- `rounded` meets its contract: one shifted to the left is the power of two.
-use Rattle.std.proofs.Common.{◌≡◌, ◌≤◌, ◌^◌, ◌*◌, ℕ, ◌%◌, arith}
+use Rattle.std.proofs.Common.{◌≡◌, ◌<◌, ◌^◌, ◌*◌, ℕ, ◌%◌, arith}
 use lib.Dec.{lit<}
 use lib.Pow.{shl_exact}
 use borrow.Author.Tests.{lt-ltb, le-ltb}
 use Rattle.weight.specs.Weight.{rounded}
 use Rattle.weight.proofs.units.rounded.Goals as goal
 
-one : (k : ℕ) → k ≤ 40 → 1 * 2 ^ k % 18446744073709551616 ≡ 2 ^ k
+one : (k : ℕ) → k < 32 → 1 * 2 ^ k % 18446744073709551616 ≡ 2 ^ k
 one k h = let e : 1 * 2 ^ k % 2 ^ 64 ≡ 1 * 2 ^ k = shl_exact {a = 1} 1 k 64 (lit< tt) (omega arith) in omega arith
 
 pub returns-then-twice-one : goal.returns-then-twice-one
