@@ -5,6 +5,7 @@ use native.Mathlib.Omega.{arith}
 use native.Mathlib.Nat.{le_of_mul-le-mul_right}
 use mathlib.Core.Path.{◌≡◌}
 use mathlib.Core.Bool.{Bool}
+use mathlib.Core.List.{List}
 use lib.ListN.{length, length-append}
 use lib.Dec.{lit<}
 use borrow.Author.Tests.{lt-leb}
@@ -27,6 +28,10 @@ decimals_range Two = (omega arith, omega arith)
 pub scaled_most : (ed : Edition) (n : ℕ) → n * 10 ^ decimals ed ≤ n * 100
 scaled_most One n = omega arith
 scaled_most Two n = omega arith
+
+-- a text over ten places
+pub long_stars : (text : List ℕ) → 10 < length text → in_places text ≡ stars
+long_stars text h = rw (lt-leb (length text) 10 h)
 
 -- the text has nine digits before the point
 long : (ed : Edition) (s : Bool) (q : ℕ) → 100000000 ≤ q / 10 ^ decimals ed → 10 < length (units_text ed s q)
@@ -54,4 +59,4 @@ pub too_long : (ed : Edition) (s : Bool) (a b : ℕ) → 0 < b → 100000000 * b
 too_long ed s a b B h =
     let p = a * 10 ^ decimals ed in
     let q = rounded ed p b in
-    rw (lt-leb (length (units_text ed s q)) 10 (long ed s q (many ed a b q B h (rounded_near ed p b B))))
+    long_stars (units_text ed s q) (long ed s q (many ed a b q B h (rounded_near ed p b B)))

@@ -70,6 +70,7 @@ fn put_units(out: &mut [u8; ROOM], edition: Edition, negative: bool, units: u64)
 
 // Writes the text of a weight, whose stored bits are given, to the first ten bytes of a field, with spaces in front of
 // it. As `ascii::buffer::put_right` does: a field that is too short stays as it was.
+#[tactic(auto, using(crate::proofs::Long::long_stars), unfolding(crate::specs::Weight::stars))]
 pub fn put(field: &mut [u8], edition: Edition, bits: u32)
     ensures { field.new ≡ written field.old 0 (right_aligned 10 (weight_text edition (of_bits binary32 bits))) }
 {
