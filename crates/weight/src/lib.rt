@@ -24,7 +24,7 @@ const PLACES: usize = 10;
 // What is written where there is no text of that many places.
 const STARS: &[u8; PLACES] = b"**********";
 
-// The most bytes of a text that is tried: a minus, the eleven digits of units below 2^34, and the point.
+// The most bytes of the text of some units: a minus, the eleven digits of a number below 2^34, and the point.
 const ROOM: usize = 13;
 
 // The sign bit.
