@@ -15,14 +15,14 @@ use lib.Ieee.Fits.{down_pos}
 use borrow.Author.Tests.{ltb-true, ltb-false, ne_eqb}
 use Rattle.ascii.proofs.Cases.{either, by_test}
 use Rattle.weight.specs.declared.Edition.{Edition}
-use Rattle.weight.specs.Weight.{decimals, rounded, units_text, in_places, stars, weight_text}
+use Rattle.weight.specs.Weight.{decimals, rounded, units_text, in_ten_places, stars, weight_text}
 use Rattle.weight.specs.Code.{sign_bit, text_by}
 use Rattle.weight.proofs.Rounded.{rounded_same, rounded_whole}
 use Rattle.weight.proofs.Long.{too_long}
 
 -- the text of a / b, below zero where s is true
 abbrev pub fraction_text : Edition → Bool → ℕ → ℕ → List ℕ
-fraction_text ed s a b = in_places (units_text ed s (rounded ed (a * 10 ^ decimals ed) b))
+fraction_text ed s a b = in_ten_places (units_text ed s (rounded ed (a * 10 ^ decimals ed) b))
 
 module _ (ed : Edition) (s : Bool) (a b c d : ℕ) (B : 0 < b) (D : 0 < d) where
   -- equal fractions have the same text
@@ -30,7 +30,7 @@ module _ (ed : Edition) (s : Bool) (a b c d : ℕ) (B : 0 < b) (D : 0 < d) where
   same_text h =
       let p = 10 ^ decimals ed in
       let e : a * p * d ≡ c * p * b = mul_right_comm a p d ∙ ap (λ (x : ℕ). x * p) h ∙ mul_right_comm c b p in
-      ap (λ (k : ℕ). in_places (units_text ed s k)) (rounded_same ed (a * p) b (c * p) d B D e)
+      ap (λ (k : ℕ). in_ten_places (units_text ed s k)) (rounded_same ed (a * p) b (c * p) d B D e)
 
 pub value_text : (ed : Edition) (v : Float) (s : Bool) (a b : ℕ) → 0 < b → HasValue v s a b
     → weight_text ed v ≡ fraction_text ed s a b

@@ -12,7 +12,7 @@ use borrow.Author.Tests.{lt-leb}
 use Rattle.ascii.specs.Number.{decimal_in}
 use Rattle.weight.specs.declared.Edition.{Edition}
 use Rattle.weight.specs.declared.Edition.TheVariants.{One, Two}
-use Rattle.weight.specs.Weight.{decimals, rounded, last_digits, units_text, in_places, stars}
+use Rattle.weight.specs.Weight.{decimals, rounded, last_digits, units_text, in_ten_places, stars}
 use Rattle.weight.proofs.Rounded.{Near, rounded_near}
 use Rattle.weight.proofs.Digits.{digits_least}
 
@@ -30,7 +30,7 @@ scaled_most One n = omega arith
 scaled_most Two n = omega arith
 
 -- a text over ten places
-pub long_stars : (text : List ℕ) → 10 < length text → in_places text ≡ stars
+pub long_stars : (text : List ℕ) → 10 < length text → in_ten_places text ≡ stars
 long_stars text h = rw (lt-leb (length text) 10 h)
 
 -- the text has nine digits before the point
@@ -55,7 +55,7 @@ many Two a b q B l w =
 
 -- a value of 100,000,000 or more
 pub too_long : (ed : Edition) (s : Bool) (a b : ℕ) → 0 < b → 100000000 * b ≤ a
-    → in_places (units_text ed s (rounded ed (a * 10 ^ decimals ed) b)) ≡ stars
+    → in_ten_places (units_text ed s (rounded ed (a * 10 ^ decimals ed) b)) ≡ stars
 too_long ed s a b B h =
     let p = a * 10 ^ decimals ed in
     let q = rounded ed p b in

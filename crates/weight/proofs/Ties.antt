@@ -13,7 +13,7 @@ use borrow.Author.Tests.{le-ltb}
 use Rattle.std.proofs.lemmas.Nat.{div-mul-add, mod-mul-add}
 use Rattle.weight.specs.declared.Edition.{Edition}
 use Rattle.weight.specs.declared.Edition.TheVariants.{One, Two}
-use Rattle.weight.specs.Weight.{decimals, halfway, rounded, units_of, in_places, units_text, weight_text}
+use Rattle.weight.specs.Weight.{decimals, halfway, rounded, units_of, in_ten_places, units_text, weight_text}
 use Rattle.weight.proofs.Rounded.{Near, rounded_near}
 
 -- m * 2 ^ e is halfway between k and k + 1 units
@@ -45,14 +45,14 @@ tie_even m e k tie = (units_tie Two m e k tie, omega arith)
 
 -- the text, whatever the sign
 pub tie_away_text : (s : Bool) (m : ℕ) (e : ℤ) (k : ℕ) → Tie One m e k
-    → weight_text One (fin s m e) ≡ in_places (units_text One s (k + 1))
+    → weight_text One (fin s m e) ≡ in_ten_places (units_text One s (k + 1))
 unfolding weight_text
-tie_away_text s m e k tie = ap (λ (n : ℕ). in_places (units_text One s n)) (tie_away m e k tie)
+tie_away_text s m e k tie = ap (λ (n : ℕ). in_ten_places (units_text One s n)) (tie_away m e k tie)
 
 pub tie_even_text : (s : Bool) (m : ℕ) (e : ℤ) (k : ℕ) → Tie Two m e k
-    → weight_text Two (fin s m e) ≡ in_places (units_text Two s (k + k % 2))
+    → weight_text Two (fin s m e) ≡ in_ten_places (units_text Two s (k + k % 2))
 unfolding weight_text
-tie_even_text s m e k tie = ap (λ (n : ℕ). in_places (units_text Two s n)) (tie_even m e k tie).0
+tie_even_text s m e k tie = ap (λ (n : ℕ). in_ten_places (units_text Two s n)) (tie_even m e k tie).0
 
 -- q is less than half away from a / b
 pub record Nearest (a b q : ℕ) : Type 0 where

@@ -49,11 +49,11 @@ unfoldable pub stars : List ℕ
 stars = replicate 10 42
 
 -- a text of ten places at most, or ten stars
-abbrev pub in_places : List ℕ → List ℕ
-in_places text = cond (leb (length text) 10) text stars
+abbrev pub in_ten_places : List ℕ → List ℕ
+in_ten_places text = cond (leb (length text) 10) text stars
 
 -- the text of a weight
 unfoldable pub weight_text : Edition → Float → List ℕ
 weight_text ed nan = stars
 weight_text ed (inf s) = stars
-weight_text ed (fin s m e) = in_places (units_text ed s (units_of ed m e))
+weight_text ed (fin s m e) = in_ten_places (units_text ed s (units_of ed m e))
