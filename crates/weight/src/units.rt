@@ -71,8 +71,8 @@ fn shifted(edition: Edition, significand: u32, shift: u32) -> u64
 }
 
 // A float by its bits, in units, its sign aside. They are below 2^34: a significand below 2^24, times 8 times 100 at
-// most. None where it is no number or, by its exponent, has nine digits before its point; the text of the others may be
-// too long too.
+// most. None where it is no number or, by its exponent, has nine digits before its point; the text of the others may
+// be too long too.
 pub fn of_bits(edition: Edition, bits: u32) -> Option<u64>
     ensures text { weight_text edition (of_bits binary32 bits) ≡ text_by edition (sign_bit bits) result }
     ensures bound { IfSome result (λ units. units < 17179869184) }
