@@ -10,11 +10,11 @@ const ROWS: usize = 4;
 /// The bytes of a line, and where in it the weight stands.
 const LINE: usize = 27;
 const WEIGHT: std::ops::Range<usize> = 16..26;
-/// Both write a page so often, in turn, of each row as often.
+/// How many pages each writes, in turn, as many of each row.
 const REPEATS: usize = 200;
 
-/// A weight as a gauge has it: mostly 40 to 160, one in sixteen of these in eighths; some below 0, a few up to 2^40, and
-/// one in 1,024 no number.
+/// A weight as a gauge has it: mostly 40 to 160, one in fifteen of these in eighths; some below 0, a few up to 2^40,
+/// and one in 1,024 no number.
 fn gauge(random: &mut Random) -> u32 {
     let bits = random.draw();
     let part = (bits >> 32) as f32 / 4_294_967_296.0;
@@ -87,8 +87,9 @@ fn median(mut times: Vec<u64>) -> f64 {
     times[times.len() / 2] as f64
 }
 
-/// Each line of our page must be that of snprintf, but for a weight of more than ten places or of no number, which must be
-/// stars, for one that is rounded to 0, which must have no minus, and, in edition 1, for halves, which must go away from 0.
+/// Each line of our page must be that of snprintf, but for a weight of more than ten places or of no number, which must
+/// be stars, for one that is rounded to 0, which must have no minus, and, in edition 1, for halves, which must go away
+/// from 0.
 fn compare(name: &str, items: &[u8], edition: u64, page: &[u8], printed: &[u8]) {
     let lines = page.chunks_exact(LINE).zip(printed.chunks_exact(LINE));
     for (item, (line, printed)) in items.chunks_exact(4).zip(lines) {

@@ -76,9 +76,9 @@ of 2,097,152 bytes at most. One that cannot be read counts as empty. An argument
 at most 4,095 bytes, and a subcommand is in small letters. docs/FORMAT.md, sections 18
 to 20, says more.
 
-Status: 0 all was written; 1 the table was refused or is too long, and standard
-error says why; 2 the arguments are wrong, memory is lacking, or the output cannot
-be written; 141 whoever read the output has closed it.
+Status: 0 all was written; 1 the table or the page was refused, or TABLE is too long,
+and standard error says why; 2 the arguments are wrong, memory is lacking, or the
+output cannot be written; 141 whoever read the output has closed it.
 '''
 
 

@@ -27,7 +27,8 @@ pub enum Refusal {
     NoColumn,
     NoSuchRow { row: usize },
     ArrayOutsideHeap { column: usize },
-    // What was lent is too short for what is needed: a list for the cells of a row read, a page for its bytes.
+    // What was lent is too short for what is needed: a list for the cells of a row read, a buffer for the bytes of a
+    // page.
     ShortList { needed: u64 },
     // What is asked for does not suit: the column is missing or not of a type that the call takes, or there is no such
     // edition.

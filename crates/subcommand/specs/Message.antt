@@ -33,9 +33,9 @@ usage_text =
     ++ codes "at most 4,095 bytes, and a subcommand is in small letters. docs/FORMAT.md, sections 18\n"
     ++ codes "to 20, says more.\n"
     ++ codes "\n"
-    ++ codes "Status: 0 all was written; 1 the table was refused or is too long, and standard\n"
-    ++ codes "error says why; 2 the arguments are wrong, memory is lacking, or the output cannot\n"
-    ++ codes "be written; 141 whoever read the output has closed it.\n"
+    ++ codes "Status: 0 all was written; 1 the table or the page was refused, or TABLE is too long,\n"
+    ++ codes "and standard error says why; 2 the arguments are wrong, memory is lacking, or the\n"
+    ++ codes "output cannot be written; 141 whoever read the output has closed it.\n"
 
 -- a file that is missing or cannot be read, by its name
 abbrev pub unread_text : List ℕ → List ℕ

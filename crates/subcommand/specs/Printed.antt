@@ -21,7 +21,7 @@ pub record Printed : Type 0 where
   pub err : List ℕ
   pub status : ℕ
 
--- a table's file has at most so many bytes, and a page
+-- the most bytes of a table's file, and of a page
 abbrev pub table_limit : ℕ
 table_limit = 2097152
 

@@ -26,7 +26,7 @@ pub const TABLE_LIMIT: usize = 2097152;
 // The length of the buffer for what is printed. It has room for each table and for 155,344 lines of a page.
 pub const OUT_ROOM: usize = 4194304;
 
-// The statuses: all was done; a table was refused, or is too long; the arguments are wrong.
+// The statuses: all was done; a table or a page was refused, or a file is too long; the arguments are wrong.
 const DONE: u8 = 0;
 
 const REFUSED: u8 = 1;

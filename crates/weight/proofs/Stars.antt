@@ -1,4 +1,5 @@
--- The text of a weight is ten stars only where the weight has no text of ten places; else it says the exact value.
+-- The text of a weight is ten stars only where the weight is no number or a text of more than ten bytes says it; else
+-- it says the exact value.
 -- Assumes nothing.
 use Prim.Native.Nat.{ℕ, ◌/◌, ◌^◌}
 use mathlib.Core.Path.{◌≡◌, sym, ap, ◌∙◌}
@@ -54,7 +55,8 @@ pub stars_only : (ed : Edition) (bits : ℕ) → weight_text ed (of_bits binary3
     → Unwritable ed (of_bits binary32 bits)
 stars_only ed bits e = value_stars ed (of_bits binary32 bits) (of_bits-fits binary32 bits) e
 
--- so the text of every bit pattern is ten stars, and no text of ten places says the float, or says its exact value
+-- so the text of every bit pattern is ten stars, and the float is no number or a text of more than ten bytes says it;
+-- or it says the float's exact value
 pub weight_or_stars : (ed : Edition) (bits : ℕ)
     → ((weight_text ed (of_bits binary32 bits) ≡ stars) × Unwritable ed (of_bits binary32 bits))
     ⊎ Says ed (of_bits binary32 bits) (weight_text ed (of_bits binary32 bits))

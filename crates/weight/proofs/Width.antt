@@ -1,4 +1,4 @@
--- The text of a weight has ten places at most, so with the spaces in front of it it has ten.
+-- The text of a weight has ten places at most, so it has ten with the spaces in front.
 -- Assumes nothing.
 use Prim.Native.Nat.{ℕ, ◌≤◌}
 use mathlib.Core.Path.{◌≡◌}

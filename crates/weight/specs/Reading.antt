@@ -46,7 +46,7 @@ pub record TooLong (ed : Edition) (s : Bool) (num den : ℕ) : Type 0 where
   pub near : WithinHalf ed s num den text
   pub long : 10 < length text
 
--- a float that has no text of ten places: it is no number, or a text that says it is too long
+-- a float for which stars stand: it is no number, or a text of more than ten bytes says it
 abbrev pub Unwritable : Edition → Float → Type 0
 Unwritable ed nan = Unit {0}
 Unwritable ed (inf s) = Unit {0}

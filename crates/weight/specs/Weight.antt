@@ -38,8 +38,8 @@ unfoldable pub last_digits : ℕ → ℕ → List ℕ
 last_digits zero n = []
 last_digits (suc k) n = last_digits k (n / 10) ++ ((48 + n % 10) ∷ [])
 
--- units of the last decimal as text: at least one digit, the point (46), the decimals. Each finite float has 39 digits
--- before its point at most
+-- units of the last decimal as text: a minus or none, at least one digit, the point (46), the decimals. A finite float
+-- of 32 bits has 39 digits before its point at most
 unfoldable pub units_text : Edition → Bool → ℕ → List ℕ
 units_text ed negative units =
     sign_text negative units ++ (decimal_in 39 (units / 10 ^ decimals ed) ++ (46 ∷ last_digits (decimals ed) units))

@@ -68,8 +68,8 @@ fn put_units(out: &mut [u8; ROOM], edition: Edition, negative: bool, units: u64)
     put_decimals(out, after_point, edition, units)
 }
 
-// Writes the text of a weight, whose stored bits are given, to the first ten bytes of a field, with spaces in front of
-// it. As `ascii::buffer::put_right` does: a field that is too short stays as it was.
+// Writes the text of a weight, whose stored bits are given, to the first ten bytes of a field, with spaces in front. A
+// field that is too short stays as it was, as of `ascii::buffer::put_right`.
 #[tactic(auto, using(crate::proofs::Long::long_stars), unfolding(crate::specs::Weight::stars))]
 pub fn put(field: &mut [u8], edition: Edition, bits: u32)
     ensures { field.new ≡ written field.old 0 (right_aligned 10 (weight_text edition (of_bits binary32 bits))) }

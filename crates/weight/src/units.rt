@@ -13,7 +13,7 @@ const FRACTION: u32 = 8388608;
 // The exponent's field from which on each value is a whole number.
 const WHOLE: u32 = 150;
 
-// That from which on it has nine digits before the point, so its text is too long in each edition.
+// That from which on it has nine digits or more before the point, so its text is too long in each edition.
 const NINE_DIGITS: u32 = 154;
 
 // The shift from which on less than half a unit is left: a significand times 100 is below 2^31.
@@ -71,8 +71,8 @@ fn shifted(edition: Edition, significand: u32, shift: u32) -> u64
 }
 
 // A float by its bits, in units, its sign aside. They are below 2^34: a significand below 2^24, times 8 times 100 at
-// most. None where it is no number or, by its exponent, has nine digits before its point; the text of the others may
-// be too long too.
+// most. None where it is no number or, by its exponent, has nine digits or more before its point; the text of the
+// others may be too long too.
 pub fn of_bits(edition: Edition, bits: u32) -> Option<u64>
     ensures text { weight_text edition (of_bits binary32 bits) ≡ text_by edition (sign_bit bits) result }
     ensures bound { IfSome result (λ units. units < 17179869184) }
