@@ -10,3 +10,4 @@ pub mod Lengths
 pub mod Chain
 pub mod Printed
 pub mod Back
+pub mod Pieces

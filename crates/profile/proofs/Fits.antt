@@ -19,7 +19,7 @@ use Rattle.walk.proofs.Inside.{column_in_row}
 use Rattle.weight.specs.declared.Edition.{Edition}
 use Rattle.weight.proofs.Width.{weight_length}
 use Rattle.profile.specs.Page.{profile_line, weight_at, profile_page, e_column}
-use Rattle.profile.proofs.Pieces.{pieces_length}
+use Rattle.ascii.proofs.Pieces.{pieces_length}
 use Rattle.profile.proofs.Widths.{line_length}
 
 -- an E item has four bytes

@@ -1,4 +1,3 @@
-pub mod Pieces
 pub mod Puts
 pub mod Widths
 pub mod Fits

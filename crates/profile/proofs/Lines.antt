@@ -17,7 +17,7 @@ use Rattle.weight.specs.Reading.{Says, Unwritable}
 use Rattle.weight.proofs.Stars.{weight_or_stars}
 use Rattle.profile.specs.Page.{profile_line, bits_at, weight_at, profile_page, edition_of, e_column, wrote}
 use Rattle.profile.specs.Page.{page_reply, page_left}
-use Rattle.profile.proofs.Pieces.{piece_at}
+use Rattle.ascii.proofs.Pieces.{piece_at}
 use Rattle.profile.proofs.Fits.{each_line, page_length}
 use Rattle.profile.proofs.Calls.{page_put, written_is}
 

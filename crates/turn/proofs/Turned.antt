@@ -2,14 +2,13 @@
 -- Assumes nothing.
 use Rattle.std.proofs.Common.{ℕ, zero, suc, ◌≡◌, ◌+◌, ◌-◌, ◌*◌, ◌/◌, ◌%◌, ◌<◌, ◌≤◌}
 use Rattle.std.proofs.Common.{List, length, get_or, drop, length-append, length-drop}
-use Rattle.std.proofs.Common.{refl, subst, sym, ap, ◌∙◌, ⊎_elim, arith}
-use mathlib.Core.List.{flat_map}
-use Rattle.std.specs.List.{range_with_len}
-use Rattle.std.proofs.lemmas.List.{ext_get_or, drop_at, get_or-drop, get_or_append_left, get_or-append-add}
+use Rattle.std.proofs.Common.{subst, sym, ap, ◌∙◌, ⊎_elim, arith}
+use Rattle.std.proofs.lemmas.List.{ext_get_or, drop_at, get_or-drop, get_or_append_left}
 use Rattle.std.proofs.lemmas.List.FromFn.{length-map-range_with_len, get_or-map-range_with_len}
 use Rattle.std.proofs.lemmas.Bool.{cases_lt}
 use Rattle.std.proofs.lemmas.Nat.{mul-add-lt, div_below, mod_below, div-add-mod'}
 use Rattle.std.proofs.Math.Nat.{mul_comm}
+use Rattle.ascii.proofs.Pieces.{pieces, pieces_length, byte_at}
 use Rattle.turn.specs.Turn.{at_place, turned, turned_back}
 
 -- a table with a byte has a row
@@ -18,44 +17,28 @@ some_row zero width i h = absurd (omega arith)
 some_row (suc rows) width i h = omega arith
 
 module _ (rows width : ℕ) (a : List ℕ) where
-  -- the bytes at the n places from s on, place by place
-  abbrev at_places : ℕ → ℕ → List ℕ
-  at_places s n = flat_map (at_place rows width a) (range_with_len s n)
+  -- the bytes at all places, place by place
+  abbrev at_places : List ℕ
+  at_places = pieces (at_place rows width a) 0 width
 
   length_place : (p : ℕ) → length (at_place rows width a p) ≡ rows
   length_place p = length-map-range_with_len (λ r. get_or a (r * width + p) 0) 0 rows
 
-  length_places : (s n : ℕ) → length (at_places s n) ≡ n * rows
-  unfolding flat_map
-  length_places s zero = omega arith
-  length_places s (suc n) =
-      length-append (at_place rows width a s) (at_places (s + 1) n)
-      ∙ omega (arith, length_place s, length_places (s + 1) n)
+  length_main : length at_places ≡ rows * width
+  length_main =
+      pieces_length (at_place rows width a) rows 0 width (λ p h. length_place p) ∙ mul_comm width rows
 
-  get_place : (s n q r : ℕ) → q < n → r < rows
-      → get_or (at_places s n) (q * rows + r) 0 ≡ get_or a (r * width + (s + q)) 0
-  unfolding flat_map
-  get_place s zero q r hq hr = absurd (omega arith)
-  get_place s (suc n) zero r hq hr =
-      let e : 0 * rows + r ≡ r = omega arith in
-      let f : s + 0 ≡ s = omega arith in
-      let l : r < length (at_place rows width a s) = omega (arith, length_place s) in
-      rw (e, f) (get_or_append_left (at_place rows width a s) (at_places (s + 1) n) 0 r l
-      ∙ get_or-map-range_with_len (λ r. get_or a (r * width + s) 0) 0 rows r r 0 hr (omega arith))
-  get_place s (suc n) (suc q) r hq hr =
-      let e : suc q * rows + r ≡ length (at_place rows width a s) + (q * rows + r) = omega (arith, length_place s) in
-      let f : s + suc q ≡ s + 1 + q = omega arith in
-      rw (e, f) (get_or-append-add (at_place rows width a s) (at_places (s + 1) n) (q * rows + r) 0
-      ∙ get_place (s + 1) n q r (omega arith) hr)
-
-  length_main : length (at_places 0 width) ≡ rows * width
-  length_main = length_places 0 width ∙ mul_comm width rows
+  get_place : (p r : ℕ) → p < width → r < rows → get_or at_places (p * rows + r) 0 ≡ get_or a (r * width + p) 0
+  get_place p r hp hr =
+      let z : 0 + p ≡ p = omega arith in
+      byte_at (at_place rows width a) rows 0 width p r 0 (λ p h. length_place p) hp hr
+      ∙ rw z (get_or-map-range_with_len (λ r. get_or a (r * width + p) 0) 0 rows r r 0 hr (omega arith))
 
   module _ (fits : rows * width ≤ length a) where
     pub turned_length : length (turned rows width a) ≡ length a
     unfolding turned
     turned_length =
-        length-append (at_places 0 width) (drop (rows * width) a)
+        length-append at_places (drop (rows * width) a)
         ∙ omega (arith, length_main, length-drop (rows * width) a)
 
     -- byte p of row r goes to p * rows + r
@@ -63,16 +46,14 @@ module _ (rows width : ℕ) (a : List ℕ) where
         → get_or (turned rows width a) (p * rows + r) 0 ≡ get_or a (r * width + p) 0
     unfolding turned
     goes_to r p hr hp =
-        let l : p * rows + r < length (at_places 0 width) =
+        let l : p * rows + r < length at_places =
         omega (arith, length_main, mul-add-lt p rows r width hp hr) in
-        let z : 0 + p ≡ p = omega arith in
-        get_or_append_left (at_places 0 width) (drop (rows * width) a) 0 (p * rows + r) l
-        ∙ get_place 0 width p r hp hr ∙ rw z refl
+        get_or_append_left at_places (drop (rows * width) a) 0 (p * rows + r) l ∙ get_place p r hp hr
 
     -- and what follows the rows stays
     pub tail_stays : drop (rows * width) (turned rows width a) ≡ drop (rows * width) a
     unfolding turned
-    tail_stays = drop_at (at_places 0 width) (drop (rows * width) a) (rows * width) length_main
+    tail_stays = drop_at at_places (drop (rows * width) a) (rows * width) length_main
 
     -- no other list is so
     pub turned_is : (b : List ℕ) → length b ≡ length a

@@ -5,7 +5,7 @@ use Rattle.ascii.specs.Buffer.{put_in}
 use Rattle.ascii.proofs.Lengths.{put_between}
 use Rattle.weight.proofs.Width.{weight_length}
 use Rattle.profile.specs.Lines.{line_of, lines}
-use Rattle.profile.proofs.Pieces.{next_piece, pieces_length}
+use Rattle.ascii.proofs.Pieces.{next_piece, pieces_length}
 use Rattle.profile.proofs.Puts.{next_put}
 use Rattle.profile.proofs.Widths.{line_length}
 use Rattle.profile.proofs.put_lines.Goals as goal

@@ -1,9 +1,9 @@
 -- Pieces of one length, one after the other.
 -- Assumes nothing.
-use Rattle.std.proofs.Common.{ℕ, zero, suc, ◌≡◌, ◌+◌, ◌*◌, ◌<◌, List, [], ◌++◌, length, take, drop}
+use Rattle.std.proofs.Common.{ℕ, zero, suc, ◌≡◌, ◌+◌, ◌*◌, ◌<◌, List, [], ◌++◌, length, take, drop, get_or}
 use Rattle.std.proofs.Common.{refl, sym, ap, ap₂, ◌∙◌, arith, length-append, append_assoc}
 use Rattle.std.specs.List.{range_with_len}
-use Rattle.std.proofs.lemmas.List.{append-nil, drop-drop, take_at, drop_at}
+use Rattle.std.proofs.lemmas.List.{append-nil, drop-drop, take_at, drop_at, get_or-take, get_or-drop}
 use mathlib.Core.List.{flat_map}
 
 -- n pieces from piece s on
@@ -44,6 +44,14 @@ module _ (f : ℕ → List ℕ) where
         let next : s + 1 + i ≡ s + suc i = omega arith in
         rw (e, ← drop-drop (i * k) k (f s ++ pieces (s + 1) n), drop_at (f s) (pieces (s + 1) n) k (h s (omega arith)))
         (piece_at (s + 1) n i (λ j p. h j (omega arith)) (omega arith) ∙ ap f next)
+
+    -- byte r of piece i
+    pub byte_at : (s n i r d : ℕ) → ((i : ℕ) → i < s + n → length (f i) ≡ k) → i < n → r < k
+        → get_or (pieces s n) (i * k + r) d ≡ get_or (f (s + i)) r d
+    byte_at s n i r d h q m =
+        let rest : List ℕ = drop (i * k) (pieces s n) in
+        sym (get_or-take k rest r d m ∙ get_or-drop (i * k) (pieces s n) r d)
+        ∙ ap (λ (t : List ℕ). get_or t r d) (piece_at s n i h q)
 
 -- the same pieces
 pub same_pieces : (f g : ℕ → List ℕ) (s n : ℕ) → ((i : ℕ) → i < s + n → f i ≡ g i) → pieces f s n ≡ pieces g s n
