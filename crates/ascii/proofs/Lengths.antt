@@ -85,8 +85,10 @@ put_put o at s t h =
     ∙ sym (unfold_put o at (s ++ t))
 
 -- a text in the place of as many bytes of the buffer
-pub put_between : (o : List ℕ) (at n : ℕ) (t s : List ℕ) → n ≡ length t → s ≡ t → put_mid at (at + n - at) o s ≡ put_in o at t
+pub part_put : (o t : List ℕ) (at n : ℕ) → length t ≡ n → put_mid at n o t ≡ put_in o at t
 unfolding put_in
-put_between o at n t s l e =
-    rw (drop-drop (at + n - at) at o)
-    (ap (λ (r : List ℕ). take at o ++ (r ++ drop (at + (at + n - at)) o)) e ∙ ap (λ (k : ℕ). take at o ++ (t ++ drop k o)) (omega arith))
+part_put o t at n e = rw (sym e) (ap (λ (r : List ℕ). take at o ++ (t ++ r)) (drop-drop (length t) at o))
+
+-- and one of n bytes, where the part is named by its ends
+pub put_between : (o : List ℕ) (at n : ℕ) (t s : List ℕ) → n ≡ length t → s ≡ t → put_mid at (at + n - at) o s ≡ put_in o at t
+put_between o at n t s l e = ap (put_mid at (at + n - at) o) e ∙ part_put o t at (at + n - at) (omega arith)

@@ -1,10 +1,7 @@
 -- A table in a file, turned: the calls refuse nothing of what the entry has accepted, and what is written is as long as
 -- the file.
 -- Assumes nothing.
-use Rattle.std.proofs.Common.{ℕ, ◌≡◌, ◌+◌, List, ◌++◌, length, take, refl, sym, ap, arith}
-use Rattle.std.proofs.lemmas.List.{drop-drop}
-use borrow.Rule.Slice.PartMut.{put_mid}
-use Rattle.ascii.specs.Buffer.{put_in}
+use Rattle.std.proofs.Common.{ℕ, ◌≡◌, ◌+◌, List, ◌++◌, length, refl, arith}
 use Rattle.layout.specs.declared.BinTable.{BinTable}
 use Rattle.bintable.specs.Entry.{entry, accepted}
 use Rattle.bintable.proofs.Kept.{entry_ok, entry_long}
@@ -17,11 +14,6 @@ use Rattle.turn.proofs.Calls.{turn_refusals}
 use Rattle.subcommand.specs.declared.answers.Way.{Way}
 use Rattle.subcommand.specs.declared.answers.Way.TheVariants as W
 use Rattle.subcommand.specs.Ways.{area_by, file_by}
-
--- a part of a buffer that another text takes the place of
-pub part_put : (o t : List ℕ) (at n : ℕ) → length t ≡ n → put_mid at n o t ≡ put_in o at t
-unfolding put_in
-part_put o t at n e = rw (sym e) (ap (λ (r : List ℕ). take at o ++ (t ++ r)) (drop-drop (length t) at o))
 
 pub file_parts : (w : Way) (l : BinTable) (f : List ℕ) → file_by w l f ≡ header_of f ++ area_by w l (data_of f)
 file_parts W.Turn l f = refl

@@ -2,7 +2,7 @@
 use Rattle.std.proofs.Common.{ℕ, ◌≡◌, ◌+◌, ◌-◌, ◌*◌, ◌<◌, List, ◌++◌, length, refl, ap, ◌∙◌, arith}
 use mathlib.Core.List.{flat_map}
 use Rattle.ascii.specs.Buffer.{put_in}
-use Rattle.ascii.proofs.Lengths.{put_between}
+use Rattle.ascii.proofs.Lengths.{part_put}
 use Rattle.weight.proofs.Width.{weight_length}
 use Rattle.profile.specs.Lines.{line_of, lines}
 use Rattle.ascii.proofs.Pieces.{next_piece, pieces_length}
@@ -28,9 +28,8 @@ loop-i-preserved c =
     let long : length t ≡ 27 = each i (omega arith) in
     let place : f.at + i * 4 + 0 ≡ f.at + i * 4 = omega arith in
     let is : c.put_line.new.line ≡ t = rw (← place, ← c.u32_at-bits.ensures) c.put_line.ensures in
-    let n : (i + 1) * 27 - i * 27 ≡ i * 27 + 27 - i * 27 = omega arith in
     let more : lines f ed (i + 1) ≡ lines f ed i ++ t =
     next_piece (line_of f ed) 0 i ∙ ap (λ (j : ℕ). lines f ed i ++ line_of f ed j) (omega arith) in
-    rw (n, more)
-    (put_between c.loop-i.page (i * 27) 27 t c.put_line.new.line (omega arith) is
+    rw (more, is)
+    (part_put c.loop-i.page t (i * 27) ((i + 1) * 27 - i * 27) (omega (arith, long))
     ∙ next_put o (lines f ed i) (i * 27) c.loop-i.page c.loop-i.invariant before t (omega arith))

@@ -2,11 +2,12 @@
 use Rattle.std.proofs.Common.{◌-◌, ◌≤◌, ap, ◌∙◌, length, arith}
 use borrow.Rule.Slice.PartMut.{put_mid}
 use Rattle.ascii.specs.Buffer.{put_in}
+use Rattle.ascii.proofs.Lengths.{part_put}
 use Rattle.ascii.proofs.Chain.{Put, fitted, front, tried_as, joined}
 use Rattle.header.specs.Records.{header_of, data_of}
 use Rattle.header.proofs.Parted.{parted_length}
 use Rattle.subcommand.specs.Ways.{area_by, file_by}
-use Rattle.subcommand.proofs.Turning.{part_put, file_parts, turn_accepts, whole_length}
+use Rattle.subcommand.proofs.Turning.{file_parts, turn_accepts, whole_length}
 use Rattle.subcommand.proofs.answers.put_turned.Goals as goal
 use Rattle.subcommand.proofs.answers.put_turned.Goals.{After-put-start, After-turn_area}
 
