@@ -5,7 +5,6 @@ use Rattle.std.proofs.lemmas.Bool.{and_parts, ltb-true}
 use lib.Dec.{eqb, ltb}
 use Rattle.ascii.specs.Text.{bytes}
 use Rattle.ascii.specs.Number.{decimal_text}
-use Rattle.ascii.proofs.Lengths.{few_digits}
 use Rattle.tform.specs.declared.TFormType.{TFormType}
 use Rattle.tform.specs.declared.TFormType.TheVariants as F
 use Rattle.tform.specs.declared.VariableArrayTy.TheVariants as T
@@ -20,7 +19,7 @@ use Rattle.weight.specs.declared.Edition.{Edition}
 use Rattle.weight.proofs.Width.{weight_length}
 use Rattle.profile.specs.Page.{profile_line, weight_at, profile_page, e_column}
 use Rattle.ascii.proofs.Pieces.{pieces_length}
-use Rattle.profile.proofs.Widths.{line_length}
+use Rattle.profile.proofs.Widths.{row_short, idx_short, line_length}
 
 -- an E item has four bytes
 pub e_width : width T.E ≡ 4
@@ -61,14 +60,14 @@ module _ (l : BinTable) (ok : layout_ok l ≡ true) where
   row_small row h = omega (arith, (limits l ok).rows)
 
   pub row_fits : (row : ℕ) → row < l.naxis2 → length (decimal_text row) ≤ 8
-  row_fits row h = few_digits 20 8 row (row_small row h) (omega arith)
+  row_fits row h = row_short row (row_small row h)
 
   module _ (c : ℕ) (e : e_column l c ≡ true) where
     pub few_items : (column_of l c).count ≤ 262144
     few_items = omega (arith, e_bytes l c e, column_in_row l ok c (in_table l c e), (limits l ok).row_bytes)
 
     pub idx_fits : (i : ℕ) → i < (column_of l c).count → length (decimal_text i) ≤ 6
-    idx_fits i h = few_digits 20 6 i (omega (arith, few_items)) (omega arith)
+    idx_fits i h = idx_short i (omega (arith, few_items))
 
     -- the lines of a row that there is
     module _ (a : List ℕ) (r : ℕ) (inside : r < l.naxis2) (ed : Edition) where
