@@ -12,7 +12,7 @@ use Rattle.cell.specs.declared.Field.TheVariants as F
 use Rattle.cell.specs.Item.{width, item}
 use Rattle.cell.specs.Field.{field_by, field}
 use Rattle.cell.proofs.Same.{word_same}
-use Rattle.walk.specs.Plain.{column_of, field_at, field_of, item_at}
+use Rattle.walk.specs.Plain.{column_of, field_at, field_of, item_at, chosen, cells, entries_of, column_entries}
 use Rattle.weight.specs.declared.Edition.{Edition}
 use Rattle.weight.specs.Weight.{weight_text}
 use Rattle.profile.specs.Page.{profile_line, bits_at, weight_at, profile_page, e_column}
@@ -33,6 +33,14 @@ pub cell_bits : (l : BinTable) (a : List ℕ) (r c i : ℕ)
     ≡ D.Float (of_bits binary32 (bits_at l a c r i)) (bits_at l a c r i)
 unfolding item
 cell_bits l a r c i = refl
+
+-- so the entries of the column in the row, which the cursor hands out, are those floats, by index
+pub e_entries : (l : BinTable) (a : List ℕ) (choice : ℕ) (heap : Bool) (r c : ℕ) → chosen choice c ≡ true
+    → e_column l c ≡ true
+    → column_entries l a choice heap r c
+    ≡ cells r c (λ i. D.Float (of_bits binary32 (bits_at l a c r i)) (bits_at l a c r i)) 0 (column_of l c).count
+unfolding column_entries entries_of item
+e_entries l a choice heap r c t e = rw (t, e_field l a heap r c e) refl
 
 -- two areas with the same bytes in the field have the same page
 pub page_same : (l : BinTable) (a b : List ℕ) (c r : ℕ) (ed : Edition) → e_column l c ≡ true
