@@ -3,6 +3,7 @@
 use Rattle.std.proofs.Common.{ℕ, ◌≡◌, ◌+◌, ◌*◌, ◌<◌, ◌≤◌, Bool, true, List, get_or, refl, ap, arith}
 use Rattle.std.specs.Float.{binary32}
 use Rattle.std.specs.Float.Ieee.{of_bits}
+use Rattle.ascii.proofs.Pieces.{same_pieces}
 use Rattle.tform.specs.declared.VariableArrayTy.TheVariants as T
 use Rattle.tform.specs.declared.TFormType.{TFormType}
 use Rattle.layout.specs.declared.BinTable.{BinTable}
@@ -17,7 +18,6 @@ use Rattle.weight.specs.declared.Edition.{Edition}
 use Rattle.weight.specs.Weight.{weight_text}
 use Rattle.profile.specs.Page.{profile_line, bits_at, weight_at, profile_page, e_column}
 use Rattle.profile.proofs.Fits.{e_width, e_bytes, column_form}
-use Rattle.ascii.proofs.Pieces.{same_pieces}
 
 -- what the field of an E column stands for in the plain list, with the heap on or off
 pub e_field : (l : BinTable) (a : List ℕ) (heap : Bool) (r c : ℕ) → e_column l c ≡ true

@@ -5,6 +5,7 @@ use Rattle.std.proofs.lemmas.Bool.{and_parts, ltb-true}
 use lib.Dec.{eqb, ltb}
 use Rattle.ascii.specs.Text.{bytes}
 use Rattle.ascii.specs.Number.{decimal_text}
+use Rattle.ascii.proofs.Pieces.{pieces_length}
 use Rattle.tform.specs.declared.TFormType.{TFormType}
 use Rattle.tform.specs.declared.TFormType.TheVariants as F
 use Rattle.tform.specs.declared.VariableArrayTy.TheVariants as T
@@ -18,8 +19,7 @@ use Rattle.walk.proofs.Inside.{column_in_row}
 use Rattle.weight.specs.declared.Edition.{Edition}
 use Rattle.weight.proofs.Width.{weight_length}
 use Rattle.profile.specs.Page.{profile_line, weight_at, profile_page, e_column}
-use Rattle.ascii.proofs.Pieces.{pieces_length}
-use Rattle.profile.proofs.Widths.{row_short, idx_short, line_length}
+use Rattle.profile.proofs.Widths.{row_short, idx_short, line_length, Fields, line_fields}
 
 -- an E item has four bytes
 pub e_width : width T.E ≡ 4
@@ -74,6 +74,10 @@ module _ (l : BinTable) (ok : layout_ok l ≡ true) where
       pub each_line : (i : ℕ) → i < (column_of l c).count
           → length (profile_line r i (weight_at l a c r ed i)) ≡ 27
       each_line i h = line_length r i _ (row_small r inside) (omega (arith, few_items)) (weight_length ed _)
+
+      pub each_fields : (i : ℕ) → i < (column_of l c).count
+          → Fields r i (weight_at l a c r ed i) 0 (profile_line r i (weight_at l a c r ed i))
+      each_fields i h = line_fields r i _ (row_small r inside) (omega (arith, few_items)) (weight_length ed _)
 
       pub page_length : length (profile_page l a c r ed) ≡ 27 * (column_of l c).count
       unfolding profile_page

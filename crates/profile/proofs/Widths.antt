@@ -1,6 +1,8 @@
--- A line has 27 bytes where its fields fit their places.
+-- A line has 27 bytes where its fields fit their places, and each field stands in its place.
 -- Assumes nothing.
-use Rattle.std.proofs.Common.{ℕ, ◌≡◌, ◌<◌, ◌≤◌, List, length, ◌∙◌, arith, length-append}
+use Rattle.std.proofs.Common.{ℕ, ◌≡◌, ◌+◌, ◌<◌, ◌≤◌, List, [], ◌∷◌, ◌++◌, length, take, drop}
+use Rattle.std.proofs.Common.{sym, ap, ◌∙◌, arith, length-append}
+use Rattle.std.proofs.lemmas.List.{drop-drop, take_at, drop_at}
 use Rattle.ascii.specs.Number.{decimal_text, right_aligned}
 use Rattle.ascii.proofs.Chain.{right_length}
 use Rattle.profile.specs.Page.{profile_line}
@@ -30,3 +32,33 @@ line_length row idx weight hr hi hw =
     let b : List ℕ = right_aligned 6 (decimal_text idx) in
     let c : List ℕ = right_aligned 10 weight in
     omega (arith, length-append {A = ℕ}, row_fills row hr, idx_fills idx hi, fills 10 weight hw)
+
+-- ---- the fields of a line, and of a line that begins at a place of a text
+
+pub record Fields (row idx : ℕ) (weight : List ℕ) (at : ℕ) (s : List ℕ) : Type 0 where
+  pub row_field : take 8 (drop at s) ≡ right_aligned 8 (decimal_text row)
+  pub idx_field : take 6 (drop (at + 9) s) ≡ right_aligned 6 (decimal_text idx)
+  pub weight_field : take 10 (drop (at + 16) s) ≡ right_aligned 10 weight
+
+-- what is behind a text and a byte
+behind : (t : List ℕ) (x : ℕ) (rest : List ℕ) (k : ℕ) → length t ≡ k → drop (k + 1) (t ++ x ∷ rest) ≡ rest
+behind t x rest k e = sym (drop-drop 1 k (t ++ x ∷ rest)) ∙ ap (drop 1) (drop_at t (x ∷ rest) k e)
+
+pub line_fields : (row idx : ℕ) (weight : List ℕ) → row < 100000000 → idx < 1000000 → length weight ≤ 10
+    → Fields row idx weight 0 (profile_line row idx weight)
+unfolding profile_line
+line_fields row idx weight hr hi hw =
+    let a : List ℕ = right_aligned 8 (decimal_text row) in
+    let b : List ℕ = right_aligned 6 (decimal_text idx) in
+    let c : List ℕ = right_aligned 10 weight in
+    let from_weight : List ℕ = c ++ (10 ∷ []) in
+    let from_idx : List ℕ = b ++ (32 ∷ from_weight) in
+    let idx_at : drop 9 (a ++ (32 ∷ from_idx)) ≡ from_idx = behind a 32 from_idx 8 (row_fills row hr) in
+    let weight_at : drop 16 (a ++ (32 ∷ from_idx)) ≡ from_weight =
+    sym (drop-drop 7 9 (a ++ (32 ∷ from_idx))) ∙ ap (drop 7) idx_at
+    ∙ behind b 32 from_weight 6 (idx_fills idx hi) in
+    record {
+      row_field = take_at a (32 ∷ from_idx) 8 (row_fills row hr);
+      idx_field = ap (take 6) idx_at ∙ take_at b (32 ∷ from_weight) 6 (idx_fills idx hi);
+      weight_field = ap (take 10) weight_at ∙ take_at c (10 ∷ []) 10 (fills 10 weight hw);
+    }

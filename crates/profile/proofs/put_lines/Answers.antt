@@ -3,9 +3,9 @@ use Rattle.std.proofs.Common.{ℕ, ◌≡◌, ◌+◌, ◌-◌, ◌*◌, ◌<◌
 use mathlib.Core.List.{flat_map}
 use Rattle.ascii.specs.Buffer.{put_in}
 use Rattle.ascii.proofs.Lengths.{part_put}
+use Rattle.ascii.proofs.Pieces.{next_piece, pieces_length}
 use Rattle.weight.proofs.Width.{weight_length}
 use Rattle.profile.specs.Lines.{line_of, lines}
-use Rattle.ascii.proofs.Pieces.{next_piece, pieces_length}
 use Rattle.profile.proofs.Puts.{next_put}
 use Rattle.profile.proofs.Widths.{line_length}
 use Rattle.profile.proofs.put_lines.Goals as goal
