@@ -1,5 +1,4 @@
--- Line i of a page is that of item i, in the page and in the buffer after the call, with its fields, and what its weight
--- says.
+-- Line i of a page is that of item i, in the page and in the buffer after the call: its fields, and what it says.
 -- Assumes nothing.
 use Rattle.std.proofs.Common.{ℕ, ◌≡◌, ◌+◌, ◌*◌, ◌<◌, ◌≤◌, true, List, length, take, drop, sym, ap, ◌∙◌, arith}
 use mathlib.Core.Logic.{◌⊎◌}

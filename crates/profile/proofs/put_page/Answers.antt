@@ -130,7 +130,8 @@ overflow_add-field c = omega (arith, ends (goal.at.overflow_add-field c).In_ok-c
 
 pub put_lines-requires-clause-row : goal.put_lines-requires-clause-row
 put_lines-requires-clause-row c =
-    row_small c.args.layout (ok (goal.at.put_lines-requires-clause-row c).In_ok-column) c.args.row c.if-layout-row.false
+    let k = (goal.at.put_lines-requires-clause-row c).In_ok-column in
+    row_small c.args.layout (ok k) c.args.row c.if-layout-row.false
 
 pub put_lines-requires-clause-few : goal.put_lines-requires-clause-few
 put_lines-requires-clause-few c = omega (arith, few (goal.at.put_lines-requires-clause-few c).In_ok-column)
