@@ -1,6 +1,6 @@
-//! Times fitsrs, cfitsio and this reader on the same tables and headers, in one thread, and prints ns a cell and ratios.
-//! Every run's checksum is compared with one that is made from the table's bytes alone. Then turning beside a copy, and
-//! a profile page beside snprintf.
+//! Times fitsrs, cfitsio and this reader on the same tables and headers, in one thread, and prints ns a cell and
+//! ratios. Every run's checksum is compared with one that is made from the table's bytes alone. Then turning beside a
+//! copy, and a profile page beside snprintf.
 
 mod pages;
 mod readers;

@@ -6,8 +6,8 @@
 // the bytes of a line
 enum { LINE = 27 };
 
-// Writes the line of each item, and cuts one that is longer. The page has a byte more than its lines, for the zero that
-// snprintf puts behind the last one. The answer is the number of lines that were not cut.
+// Writes the line of each item, and cuts one that is longer. The page has a byte more than its lines, for the zero
+// that snprintf puts behind the last one. The answer is the number of lines that were not cut.
 uint64_t snprintf_page(const uint8_t *items, size_t count, size_t row, int decimals, char *page) {
     uint64_t whole = 0;
     for (size_t i = 0; i < count; i++) {

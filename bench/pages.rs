@@ -87,9 +87,9 @@ fn median(mut times: Vec<u64>) -> f64 {
     times[times.len() / 2] as f64
 }
 
-/// Each line of our page must be that of snprintf, but for a weight of more than ten places or of no number, which must
-/// be stars, for one that is rounded to 0, which must have no minus, and, in edition 1, for halves, which must go away
-/// from 0.
+/// Each line of our page must be that of snprintf, but for a weight of more than ten places or of no number, which
+/// must be stars, for one that is rounded to 0, which must have no minus, and, in edition 1, for halves, which must go
+/// away from 0.
 fn compare(name: &str, items: &[u8], edition: u64, page: &[u8], printed: &[u8]) {
     let lines = page.chunks_exact(LINE).zip(printed.chunks_exact(LINE));
     for (item, (line, printed)) in items.chunks_exact(4).zip(lines) {

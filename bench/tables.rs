@@ -1,5 +1,5 @@
-//! The tables that are read, turned or printed: their bytes, and from those alone the checksums of their cells and their
-//! bytes turned.
+//! The tables that are read, turned or printed: their bytes, and from those alone the checksums of their cells and
+//! their bytes turned.
 
 const BLOCK: usize = 2880;
 

@@ -319,13 +319,15 @@ done
 printf '%8d %6d %10s\n' 0 0 80.12 0 1 80.25 0 2 -80.25 0 3 -0.04 0 4 '**********' >"$work/want"
 expect 0 '' coentrift page ./profile.fits Weight 0 02
 echo 'refused 15 0' >"$work/want"
-expect 1 'coentrift: refused 15 0: the column is not of form E (PE is another form)' coentrift page profile.fits pos 0 1
+expect 1 'coentrift: refused 15 0: the column is not of form E (PE is another form)' \
+    coentrift page profile.fits pos 0 1
 for column in 2 '' 'weight ' -1; do
     expect 1 'coentrift: refused 15 0: the table has no such column' coentrift page profile.fits "$column" 0 1
 done
 expect 1 'coentrift: refused 15 0: there is no edition but 1 and 2' coentrift page profile.fits weight 0 3
 echo 'refused 12 2' >"$work/want"
-expect 1 'coentrift: refused 12 2: row 2, counted from 0, is no row of the table' coentrift page profile.fits weight 2 1
+expect 1 'coentrift: refused 12 2: row 2, counted from 0, is no row of the table' \
+    coentrift page profile.fits weight 2 1
 nothing
 usage=$("$here/crates/coentrift/out/coentrift" 2>&1)
 check 'usage' "$(hold [ "${usage%%

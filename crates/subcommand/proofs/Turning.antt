@@ -1,5 +1,5 @@
--- A table in a file, turned: the calls refuse nothing of what the entry has accepted, and what is written is as long as
--- the file.
+-- A table in a file, turned: the calls refuse nothing of what the entry has accepted, and what is written is as long
+-- as the file.
 -- Assumes nothing.
 use Rattle.std.proofs.Common.{ℕ, ◌≡◌, ◌+◌, List, ◌++◌, length, refl, arith}
 use Rattle.layout.specs.declared.BinTable.{BinTable}

@@ -25,7 +25,8 @@ wrote c =
     let s = c.split_file.ensures in
     let found = c.find_column-found.ensures in
     rw (sym s.header, sym found)
-    (page_done a.layout a.file.now c.find_column-found.result a.row a.edition c.in-Ok.len a.out.now c.put_profile.new.out
+    (page_done a.layout a.file.now c.find_column-found.result a.row a.edition c.in-Ok.len a.out.now
+    c.put_profile.new.out
     c.told-out (rw (sym s.data) e.reply) (rw (sym s.data) e.buffer))
 
 pub returns-in-Ok-clause-printed : goal.returns-in-Ok-clause-printed
