@@ -133,22 +133,26 @@ units_lt : (ed : Edition) (num den k : ℕ) → 0 < den → num ≤ 2 ^ 128 * de
 units_lt One num den k h l w = lt_of_le_of_lt (near_le 10 num den k (2 ^ 128) h l w) (lit< tt)
 units_lt Two num den k h l w = lt_of_le_of_lt (near_le 100 num den k (2 ^ 128) h l w) (lit< tt)
 
--- the text of some units that are within half of the exact value
+-- the text of some units that are within half of the exact value, and that it says these units
 near_within : (ed : Edition) (s : Bool) (num den k : ℕ) → k < 10 ^ (39 + decimals ed)
-    → Near (num * 10 ^ decimals ed) den k → WithinHalf ed s num den (units_text ed s k)
+    → Near (num * 10 ^ decimals ed) den k
+    → (t : WithinHalf ed s num den (units_text ed s k)) × (said t.number ≡ k)
 near_within ed s num den k h w =
-    let r = units_read ed s k h in
-    record {
-      number = r.number;
-      places = r.places;
-      high = rw r.says w.high;
-      low = rw r.says w.low;
-      sign = rw r.says r.sign;
-    }
+    let r = units_read ed s k h in (
+      record {
+        number = r.number;
+        places = r.places;
+        high = rw r.says w.high;
+        low = rw r.says w.low;
+        sign = rw r.says r.sign;
+      },
+      r.says,
+    )
 
 -- the text of the units of a single float says its exact value, if it is a number
 pub units_within : (ed : Edition) (s : Bool) (m : ℕ) (e : ℤ) → T (fits binary32 (fin s m e))
-    → WithinHalf ed s (m * up e) (down e) (units_text ed s (units_of ed m e))
+    → (t : WithinHalf ed s (m * up e) (down e) (units_text ed s (units_of ed m e)))
+    × (said t.number ≡ units_of ed m e)
 units_within ed s m e f =
     let k = units_of ed m e in
     let w = rounded_near ed (m * up e * 10 ^ decimals ed) (down e) (down_pos e) in
@@ -164,7 +168,7 @@ value_says ed (inf s) f = inl refl
 value_says ed (fin s m e) f =
     by_test (λ (t : List ℕ). (t ≡ stars) ⊎ WithinHalf ed s (m * up e) (down e) t)
     (leb (length (units_text ed s (units_of ed m e))) 10)
-    (λ t. inr (units_within ed s m e f))
+    (λ t. inr (units_within ed s m e f).0)
     (λ t. inl refl)
 
 -- the text of every bit pattern is ten stars or says the float's exact value

@@ -1,5 +1,5 @@
--- The text of a weight is ten stars only where the weight is no number or a text of more than ten bytes says it; else
--- it says the exact value.
+-- The text of a weight is ten stars only where the weight is no number or its text would have more than ten bytes;
+-- else it says the exact value.
 -- Assumes nothing.
 use Prim.Native.Nat.{ℕ, ◌/◌, ◌^◌}
 use mathlib.Core.Path.{◌≡◌, sym, ap, ◌∙◌}
@@ -49,14 +49,15 @@ value_stars ed (fin s m x) f e =
     let text = units_text ed s units in
     either (leb (length text) 10)
     (λ t. absurd (not_stars ed s units (rw t at e)))
-    (λ t. record { text = text; near = units_within ed s m x f; long = leb-false (length text) 10 t })
+    (λ t. let w = units_within ed s m x f in
+    record { text = text; near = w.0; units = w.1; long = leb-false (length text) 10 t })
 
 pub stars_only : (ed : Edition) (bits : ℕ) → weight_text ed (of_bits binary32 bits) ≡ stars
     → Unwritable ed (of_bits binary32 bits)
 stars_only ed bits e = value_stars ed (of_bits binary32 bits) (of_bits-fits binary32 bits) e
 
--- so the text of every bit pattern is ten stars, and the float is no number or a text of more than ten bytes says it;
--- or it says the float's exact value
+-- so the text of every bit pattern is ten stars, and the float is no number or its text would have more than ten
+-- bytes; or it says the float's exact value
 pub weight_or_stars : (ed : Edition) (bits : ℕ)
     → ((weight_text ed (of_bits binary32 bits) ≡ stars) × Unwritable ed (of_bits binary32 bits))
     ⊎ Says ed (of_bits binary32 bits) (weight_text ed (of_bits binary32 bits))

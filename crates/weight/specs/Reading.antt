@@ -2,13 +2,13 @@
 -- contract cites it.
 -- Assumes nothing.
 use Rattle.std.specs.Prelude.{ℕ, ◌≡◌, ◌+◌, ◌*◌, ◌^◌, ◌<◌, ◌≤◌, Bool, true, ◌&&◌, cond, List, [], ◌∷◌, ◌++◌}
-use Rattle.std.specs.Prelude.{length, get_or, ltb, Float}
+use Rattle.std.specs.Prelude.{length, get_or, ltb, ℤ, Float}
 use Rattle.std.specs.Float.{nan, inf, fin}
 use Rattle.std.specs.Float.Ieee.{up, down}
 use Rattle.std.specs.List.{list_all}
 use Rattle.ascii.specs.Text.{digit, decimal}
 use Rattle.weight.specs.declared.Edition.{Edition}
-use Rattle.weight.specs.Weight.{decimals}
+use Rattle.weight.specs.Weight.{decimals, units_of}
 
 -- a text that is a number: a minus or none, digits, a point, digits; before the point one digit or more, and no zero
 -- (48) in front of others
@@ -40,14 +40,15 @@ Says ed nan text = ⊥
 Says ed (inf s) text = ⊥
 Says ed (fin s m e) text = WithinHalf ed s (m * up e) (down e) text
 
--- a text that says num / den so, and is longer than ten places
-pub record TooLong (ed : Edition) (s : Bool) (num den : ℕ) : Type 0 where
+-- the text of m * 2 ^ e, which says so many units as that is rounded to, has more than ten bytes
+pub record TooLong (ed : Edition) (s : Bool) (m : ℕ) (e : ℤ) : Type 0 where
   pub text : List ℕ
-  pub near : WithinHalf ed s num den text
+  pub near : WithinHalf ed s (m * up e) (down e) text
+  pub units : said near.number ≡ units_of ed m e
   pub long : 10 < length text
 
--- a float for which stars stand: it is no number, or a text of more than ten bytes says it
+-- a float for which stars stand: it is no number, or its text would be too long
 abbrev pub Unwritable : Edition → Float → Type 0
 Unwritable ed nan = Unit {0}
 Unwritable ed (inf s) = Unit {0}
-Unwritable ed (fin s m e) = TooLong ed s (m * up e) (down e)
+Unwritable ed (fin s m e) = TooLong ed s m e
