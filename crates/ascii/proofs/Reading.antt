@@ -17,7 +17,7 @@ use Rattle.ascii.specs.Text.{front, digit, decimal}
 use Rattle.ascii.proofs.Cases.{either}
 use Rattle.ascii.proofs.Front.{front_le, front_passes}
 use Rattle.ascii.proofs.Decimal.{decimal_next, ten_next, ten_le, digit_range}
-use Rattle.ascii.specs.Number.{number}
+use Rattle.ascii.specs.Number.{read_on, number}
 
 -- a number with one digit more, where it is still below 2 ^ 64
 abbrev pub digit_after : ℕ → ℕ → Option ℕ
@@ -38,7 +38,7 @@ unfolding decimal
 decimal_grows n [] = omega arith
 decimal_grows n (b ∷ bs) = omega (arith, decimal_grows (n * 10 + (b - 48)) bs)
 
-from_is : (n : ℕ) (s : List ℕ) → n < 2 ^ 64 → number_from n s ≡ cond (eqb (front digit s) (length s) && ltb (decimal n s) (2 ^ 64)) (Some (decimal n s)) None
+pub from_is : (n : ℕ) (s : List ℕ) → n < 2 ^ 64 → number_from n s ≡ read_on n s
 unfolding number_from front decimal
 from_is n [] h = rw (lt-ltb n (2 ^ 64) h)
 from_is n (b ∷ bs) h =
@@ -53,9 +53,9 @@ pub number_none : (s : List ℕ) → length s ≡ 0 → number s ≡ None
 unfolding number
 number_none s e = rw e
 
-pub number_is : (s : List ℕ) → (length s ≡ 0 → ⊥) → number_from 0 s ≡ number s
+pub number_some : (s : List ℕ) → (length s ≡ 0 → ⊥) → read_on 0 s ≡ number s
 unfolding number
-number_is s h = rw (lt-ltb 0 (length s) (omega arith)) (from_is 0 s (omega arith))
+number_some s h = rw (lt-ltb 0 (length s) (omega arith))
 
 -- at a place of the text
 module _ (n : ℕ) (s : List ℕ) (i : ℕ) where

@@ -3,9 +3,13 @@
 use Rattle.std.specs.Prelude.{ℕ, zero, suc, ◌+◌, ◌-◌, ◌/◌, ◌%◌, ◌^◌, ◌&&◌, cond, List, [], ◌∷◌, ◌++◌, length, replicate, eqb, ltb, Option, Some, None}
 use Rattle.ascii.specs.Text.{front, digit, decimal}
 
+-- the number n read on by the digits of a text: digits and nothing else, or none, and below 2^64
+abbrev pub read_on : ℕ → List ℕ → Option ℕ
+read_on n s = cond (eqb (front digit s) (length s) && ltb (decimal n s) (2 ^ 64)) (Some (decimal n s)) None
+
 -- a number: one digit or more and nothing else, and below 2^64. Zeros may stand in front
 unfoldable pub number : List ℕ → Option ℕ
-number s = cond (ltb 0 (length s) && (eqb (front digit s) (length s) && ltb (decimal 0 s) (2 ^ 64))) (Some (decimal 0 s)) None
+number s = cond (ltb 0 (length s)) (read_on 0 s) None
 
 -- the decimal digits of n, the highest first and no zero in front, for a number of k digits at most
 unfoldable pub decimal_in : ℕ → ℕ → List ℕ

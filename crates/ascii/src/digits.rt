@@ -1,7 +1,7 @@
 // Numbers as text: the number that a text is, and the decimal digits of a number in a lent buffer.
 ghost use Rattle.std.specs.Prelude.{◌≡◌, ◌&&◌, cond, ◌+◌, ◌-◌, ◌*◌, ◌^◌, ltb};
 ghost use Rattle.ascii.specs.Text.{digit};
-ghost use Rattle.ascii.specs.Number.{number, decimal_text};
+ghost use Rattle.ascii.specs.Number.{read_on, number, decimal_text};
 ghost use Rattle.ascii.specs.Buffer.{written, place_after};
 
 use super::buffer;
@@ -17,18 +17,26 @@ fn with_digit(n: usize, byte: u8) -> Option<usize>
     n.checked_mul(10)?.checked_add((byte - b'0') as usize)
 }
 
+// The number n with the digits of a text after it.
+pub fn read_on(n: usize, text: &[u8]) -> Option<usize>
+    ensures { result ≡ read_on n text.now }
+{
+    let mut number = n;
+    for byte in text {
+        number = with_digit(number, *byte)?;
+    }
+    Some(number)
+}
+
 // The number that a text is.
+#[tactic(auto, using(crate::proofs::Reading::number_none, crate::proofs::Reading::number_some))]
 pub fn parse_number(text: &[u8]) -> Option<usize>
     ensures { result ≡ number text.now }
 {
     if text.is_empty() {
         return None;
     }
-    let mut n: usize = 0;
-    for byte in text {
-        n = with_digit(n, *byte)?;
-    }
-    Some(n)
+    read_on(0, text)
 }
 
 // The decimal digits of a number. They stand in the buffer that is lent.

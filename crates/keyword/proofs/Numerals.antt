@@ -189,13 +189,13 @@ module _ (s : List ℕ) where
   pub number_read : (n : ℕ) → Some n ≡ number s → length s ≤ 3 → pointwise eqb (48 ∷ []) (take 1 s) ≡ false → Index n
   unfolding number
   number_read n e few other =
-      let test = ltb 0 (length s) && (eqb (front digit s) (length s) && ltb (decimal 0 s) (2 ^ 64)) in
-      either test
+      either (ltb 0 (length s))
+      (λ l. either (eqb (front digit s) (length s) && ltb (decimal 0 s) (2 ^ 64))
       (λ t.
-      let y : Some n ≡ Some (decimal 0 s) = rw t at e in
+      let y : Some n ≡ Some (decimal 0 s) = rw (l, t) at e in
       let is : n ≡ decimal 0 s = cc in
-      let some = ltb-true 0 (length s) (both _ _ t).0 in
-      let all : front digit s ≡ length s = eqb-true (front digit s) (length s) (both _ _ (both _ _ t).1).0 in
+      let some = ltb-true 0 (length s) l in
+      let all : front digit s ≡ length s = eqb-true (front digit s) (length s) (both _ _ t).0 in
       let h : Numeral s = record {
         some = omega arith;
         few = few;
@@ -206,4 +206,5 @@ module _ (s : List ℕ) where
         least = omega (arith, is, (numeral_says s h).least);
         place = ap (λ (v : ℕ). Some (v - 1)) is ∙ sym (index_of s h);
       })
-      (λ t. let y : Some n ≡ None = rw t at e in cc)
+      (λ t. let y : Some n ≡ None = rw (l, t) at e in cc))
+      (λ l. let y : Some n ≡ None = rw l at e in cc)
