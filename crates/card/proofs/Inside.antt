@@ -1,23 +1,23 @@
 -- A string lies within the header, for callers that cut it out.
 -- Assumes nothing.
 use Rattle.std.specs.Prelude.{Some, None}
-use mathlib.Core.Path.{◌≡◌, sym}
-use mathlib.Core.Bool.{Bool, true, false, ◌&&◌, true≢false}
+use mathlib.Core.Path.{◌≡◌}
+use mathlib.Core.Bool.{Bool, true, false, ◌&&◌}
 use mathlib.Core.List.{List, [], ◌∷◌}
-use Prim.Native.Nat.{ℕ, ◌+◌, ◌*◌, ◌/◌, ◌≤◌, ◌<◌}
+use Prim.Native.Nat.{ℕ, ◌+◌, ◌*◌, ◌/◌, ◌≤◌}
 use native.Mathlib.Omega.{arith}
 use lib.ListN.{length, take, drop, length-take, length-drop}
 use lib.Dec.{ltb, leb, eqb}
 use lib.IntN.{ℤ}
-use borrow.Author.Tests.{ltb-true}
 use Rattle.card.specs.declared.Value.TheVariants.{Integer, String}
-use Rattle.ascii.specs.Text.{bytes, same, front, space, digit, trim}
+use Rattle.ascii.specs.Text.{front, space, digit, trim}
 use Rattle.card.specs.Ends.{follows, closing}
 use Rattle.card.specs.Record.{card_at, has_value}
 use Rattle.card.specs.Value.{digits_value, integer_value, string_value, value_from, field_value, value_of}
 use Rattle.ascii.proofs.Cases.{either}
 use Rattle.ascii.proofs.Front.{front_le}
 use Rattle.ascii.proofs.Spaces.{trimmed_le}
+use Rattle.card.proofs.Records.{value_below}
 
 module _ (a n : ℕ) where
   integer_other : (z : ℤ) → Some (Integer z) ≡ Some (String a n) → ⊥
@@ -64,10 +64,6 @@ module _ (a n : ℕ) where
       omega (arith, front_le space f, length-drop (front space f) f)
 
   module _ (h : List ℕ) (k : ℕ) where
-    below : has_value (card_at h k) ≡ true → k < length h / 80
-    unfolding card_at has_value same bytes
-    below e = either (ltb k (length h / 80)) (λ t. ltb-true k (length h / 80) t) (λ t. absurd (true≢false (sym (rw t at e))))
-
     card_length : length (card_at h k) ≤ 80
     unfolding card_at
     card_length = either (ltb k (length h / 80)) (λ t. rw t (simp length-take (omega arith))) (λ t. rw t (omega arith))
@@ -79,5 +75,5 @@ module _ (a n : ℕ) where
         either (has_value (card_at h k))
         (λ t.
         let q = field_inside (k * 80 + 10) (drop 10 (card_at h k)) (rw t at e) in
-        omega (arith, below t, card_length, length-drop 10 (card_at h k)))
+        omega (arith, value_below h k t, card_length, length-drop 10 (card_at h k)))
         (λ t. absurd (none_other (rw t at e)))

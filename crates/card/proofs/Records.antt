@@ -1,13 +1,14 @@
 -- The tests of a record's bytes, and a record that is not there, which reads as a blank one.
 -- Assumes nothing.
-use Rattle.std.proofs.Common.{◌≡◌, ℕ, ◌+◌, ◌-◌, ◌*◌, ◌/◌, ◌<◌, List, [], ◌∷◌, Bool, true, false, ◌&&◌, cond, length, take, drop, replicate, Bor, Some, None, refl, ap, ◌∙◌, arith}
+use Rattle.std.proofs.Common.{◌≡◌, ℕ, ◌+◌, ◌-◌, ◌*◌, ◌/◌, ◌<◌, List, [], ◌∷◌, Bool, true, false, ◌&&◌, cond, length, take, drop, replicate, Bor, Some, None, refl, sym, ap, ◌∙◌, arith}
 use Rattle.std.specs.Prelude.{Option, MatchOption}
 use Rattle.std.specs.Option.{option_copied}
 use Rattle.std.specs.Array.{IsFirstChunk}
 use Rattle.std.specs.Cmp.{nat_eq_equiv}
 use Rattle.std.specs.Cmp.Lexicographic.{pointwise}
+use mathlib.Core.Bool.{true≢false}
 use lib.Dec.{eqb, ltb}
-use borrow.Author.Tests.{lt-ltb, le-ltb}
+use borrow.Author.Tests.{lt-ltb, le-ltb, ltb-true}
 use Rattle.ascii.specs.Text.{bytes, same, spaces, trim}
 use Rattle.card.specs.Record.{card_at, is_end, has_value, name_of}
 use Rattle.ascii.proofs.Cases.{either}
@@ -54,6 +55,11 @@ module _ (h : List ℕ) (k : ℕ) where
   record_cut part None e l m = rw (le-ltb k (length h / 80) (omega arith))
   record_cut part (Some y) e l m =
       rw (lt-ltb k (length h / 80) (omega (arith, m.enough, l))) (ap Some (m.same ∙ ap (take 80) (e ∙ part_from h (k * 80))))
+
+  -- a record that holds a value is there
+  pub value_below : has_value (card_at h k) ≡ true → k < length h / 80
+  unfolding card_at has_value same bytes
+  value_below e = either (ltb k (length h / 80)) (λ t. ltb-true k (length h / 80) t) (λ t. absurd (true≢false (sym (rw t at e))))
 
   module _ (missing : None ≡ record_or_none) where
     over : ltb k (length h / 80) ≡ false

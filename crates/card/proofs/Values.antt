@@ -1,13 +1,13 @@
 -- The cases of a value, one law for each way that the definitions go.
 -- Assumes nothing.
-use Rattle.std.specs.Prelude.{Some, None}
+use Rattle.std.specs.Prelude.{Option, Some, None}
 use Rattle.std.proofs.lemmas.Option.{cond_some}
 use mathlib.Core.Path.{◌≡◌, sym, ap, ◌∙◌}
 use mathlib.Core.List.{List}
-use mathlib.Core.Bool.{Bool, true, false, and-false}
-use Prim.Native.Nat.{ℕ, ◌+◌, ◌-◌, ◌*◌, ◌^◌, ◌≤◌, ◌<◌}
+use mathlib.Core.Bool.{Bool, true, false, cond, and-false}
+use Prim.Native.Nat.{ℕ, ◌+◌, ◌-◌, ◌*◌, ◌/◌, ◌^◌, ◌≤◌, ◌<◌}
 use native.Mathlib.Omega.{arith}
-use lib.ListN.{length, take, drop}
+use lib.ListN.{length, take, drop, length-take, length-drop}
 use lib.Dec.{eqb, ltb, leb}
 use borrow.Author.Tests.{lt-ltb, le-leb, lt-leb, eqb-true, eqb-false}
 use Rattle.ascii.specs.Number.{number}
@@ -21,6 +21,7 @@ use Rattle.card.specs.Ends.{follows, closing}
 use Rattle.card.proofs.Closing.{closing_place}
 use Rattle.card.specs.Value.{signed, digits_value, string_value, field_value, value_of}
 use Rattle.card.specs.Record.{card_at, has_value}
+use Rattle.card.proofs.Records.{value_below}
 
 -- what is read of n digits, 18 at most
 module _ (s : List ℕ) (n : ℕ) (e : n ≡ front digit s) (few : n ≤ 18) where
@@ -91,10 +92,29 @@ module _ (s : List ℕ) (start : ℕ) where
     string_says f = rw (closes.0, closes.1, ap follows (sym (part_from s (n + 1))) ∙ f)
 
 module _ (h : List ℕ) (k : ℕ) where
-  pub value_unreadable : has_value (card_at h k) ≡ false → value_of h k ≡ None
-  unfolding value_of
-  value_unreadable e = rw e
+  abbrev pub field_or_none : Option (List ℕ)
+  field_or_none = cond (has_value (card_at h k)) (Some (drop 10 (card_at h k))) None
 
-  pub value_held : has_value (card_at h k) ≡ true → value_of h k ≡ field_value (k * 80 + 10) (drop 10 (card_at h k))
+  -- without a value field there is no value
+  pub value_unreadable : None ≡ field_or_none → value_of h k ≡ None
   unfolding value_of
-  value_held e = rw e
+  value_unreadable e =
+      either (has_value (card_at h k)) (λ t. let y : None ≡ Some (drop 10 (card_at h k)) = rw t at e in cc) (λ t. rw t)
+
+  -- the value field of a record
+  pub record Field (f : List ℕ) : Type 0 where
+    pub inside : k < length h / 80
+    pub long : length f ≡ 70
+    pub is : value_of h k ≡ field_value (k * 80 + 10) f
+
+  pub field_is : (f : List ℕ) → Some f ≡ field_or_none → Field f
+  unfolding value_of card_at
+  field_is f e =
+      let t = cond_some (has_value (card_at h k)) (drop 10 (card_at h k)) f (sym e) in
+      let inside = value_below h k t.0 in
+      let there = lt-ltb k (length h / 80) inside in
+      record {
+        inside = inside;
+        long = ap length (sym t.1) ∙ rw there (simp (length-drop, length-take) (omega arith));
+        is = rw (t.0, t.1);
+      }

@@ -7,11 +7,12 @@
 mod field;
 mod text;
 
-ghost use Rattle.std.specs.Prelude.{◌≡◌, cond, ◌/◌, ltb, length};
+ghost use Rattle.std.specs.Prelude.{◌≡◌, cond, ◌/◌, ltb, length, drop};
 ghost use Rattle.std.specs.Option.{option_copied};
 ghost use Rattle.card.specs.Record.{card_at, is_end, has_value, name_of};
 ghost use Rattle.card.specs.Value.{value_of};
 
+pub use text::may_follow;
 use text::{FIELD_START, NAME_BYTES, Record};
 
 // How long a record is.
@@ -65,14 +66,23 @@ pub fn name(header: &[u8], number: usize) -> &[u8]
     &name[..ascii::trimmed_len(name)]
 }
 
-// The record's value.
-pub fn parse_value(header: &[u8], number: usize) -> Option<Value>
-    ensures { result ≡ value_of header.now number }
+// Bytes 11 to 80 of a record that holds a value.
+pub fn value_field(header: &[u8], number: usize) -> Option<&[u8]>
+    ensures { option_copied result
+        ≡ cond (has_value (card_at header.now number)) (Some (drop 10 (card_at header.now number))) None }
 {
     let card = record_at(header, number)?;
     if !text::value_indicator(card) {
         return None;
     }
-    let start = number * RECORD_BYTES + FIELD_START;
-    field::field_value(&card[FIELD_START..], start)
+    Some(&card[FIELD_START..])
+}
+
+// The record's value.
+#[tactic(auto, using(crate::proofs::Values::value_unreadable))]
+pub fn parse_value(header: &[u8], number: usize) -> Option<Value>
+    ensures { result ≡ value_of header.now number }
+{
+    let field = value_field(header, number)?;
+    field::field_value(field, number * RECORD_BYTES + FIELD_START)
 }
