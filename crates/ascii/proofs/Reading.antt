@@ -2,14 +2,14 @@
 -- Assumes nothing.
 use Rattle.std.specs.Prelude.{Option, Some, None}
 use Rattle.std.proofs.lemmas.Option.{cond_some}
-use mathlib.Core.Path.{◌≡◌, refl, sym, ap}
-use mathlib.Core.List.{List, [], ◌∷◌}
+use mathlib.Core.Path.{◌≡◌, refl, sym, ap, ◌∙◌}
+use mathlib.Core.List.{List, [], ◌∷◌, ◌++◌}
 use mathlib.Core.Bool.{Bool, ◌&&◌, cond, and-false}
 use Prim.Native.Nat.{ℕ, zero, suc, ◌+◌, ◌-◌, ◌*◌, ◌^◌, ◌≤◌, ◌<◌}
 use native.Mathlib.Nat.{le_of_suc-le-suc, not-suc-le-zero}
 use native.Mathlib.Numerals.{add-one}
 use native.Mathlib.Omega.{arith}
-use lib.ListN.{length, take, drop, get_or, drop_of_length-le}
+use lib.ListN.{length, length-append, take, drop, get_or, drop_of_length-le}
 use lib.Seq.{drop-cons, length-take-le}
 use lib.Dec.{eqb, ltb, eqb-zero-suc, eqb-suc-suc}
 use borrow.Author.Tests.{eq-eqb, lt-ltb, le-ltb, ltb-true, ltb-false}
@@ -56,6 +56,28 @@ number_none s e = rw e
 pub number_some : (s : List ℕ) → (length s ≡ 0 → ⊥) → read_on 0 s ≡ number s
 unfolding number
 number_some s h = rw (lt-ltb 0 (length s) (omega arith))
+
+-- one text after another
+from_append : (n : ℕ) (a b : List ℕ) → number_from n (a ++ b) ≡ onward (λ (m : ℕ). number_from m b) (number_from n a)
+unfolding number_from
+from_append n [] b = refl
+from_append n (x ∷ a) b =
+    elim (digit_after n x) as (λ (o : Option ℕ). onward (λ (m : ℕ). number_from m (a ++ b)) o ≡ onward (λ (m : ℕ). number_from m b) (onward (λ (m : ℕ). number_from m a) o)) [
+      | Some m ↦ from_append m a b
+      | None ↦ refl
+    ]
+
+module _ (a b : List ℕ) (some : length a ≡ 0 → ⊥) where
+  number_append : number (a ++ b) ≡ onward (λ (m : ℕ). number_from m b) (number a)
+  number_append =
+      sym (number_some (a ++ b) (simp length-append (omega arith))) ∙ sym (from_is 0 (a ++ b) (omega arith)) ∙ from_append 0 a b
+      ∙ ap (onward (λ (m : ℕ). number_from m b)) (from_is 0 a (omega arith) ∙ number_some a some)
+
+  pub number_on : (n : ℕ) → n < 2 ^ 64 → Some n ≡ number a → read_on n b ≡ number (a ++ b)
+  number_on n h e = sym (from_is n b h) ∙ ap (onward (λ (m : ℕ). number_from m b)) e ∙ sym number_append
+
+  pub number_off : None ≡ number a → number (a ++ b) ≡ None
+  number_off e = number_append ∙ ap (onward (λ (m : ℕ). number_from m b)) (sym e)
 
 -- at a place of the text
 module _ (n : ℕ) (s : List ℕ) (i : ℕ) where
