@@ -1,1 +1,4 @@
 pub mod Numbers
+pub mod Powers
+pub mod Texts
+pub mod Reading

@@ -1,0 +1,113 @@
+-- A real number as it is written: the parts of its text, the text, and the double that the parts stand for. Laws cite these.
+-- Assumes nothing.
+use Rattle.std.specs.Prelude.{◌≡◌, ℕ, ◌+◌, ◌*◌, ◌^◌, ◌<◌, List, [], ◌∷◌, ◌++◌, Bool, true, false, ◌&&◌, ◌||◌, cond, length, eqb, ltb, leb, Option, Some, None}
+use Rattle.std.specs.Float.{Float, binary64}
+use Rattle.std.specs.Float.Ieee.{round}
+use Rattle.ascii.specs.Text.{front, digit, decimal}
+
+-- ---- the parts
+
+pub data Sign : Type 0 where
+  no_sign plus minus : Sign
+
+pub data Letter : Type 0 where
+  letter_e letter_d : Letter
+
+pub record Exponent : Type 0 where
+  pub letter : Letter
+  pub sign : Sign
+  pub digits : List ℕ
+
+-- the digits before the point, and those after it if there is a point
+pub record Number : Type 0 where
+  pub sign : Sign
+  pub whole : List ℕ
+  pub fraction : Option (List ℕ)
+  pub exponent : Option Exponent
+
+abbrev pub fraction_digits : Option (List ℕ) → List ℕ
+fraction_digits None = []
+fraction_digits (Some f) = f
+
+-- digits and nothing else
+abbrev pub Digits : List ℕ → Type 0
+Digits s = front digit s ≡ length s
+
+-- an exponent has a digit or more
+abbrev pub ExponentDigits : Option Exponent → Type 0
+ExponentDigits None = Unit {0}
+ExponentDigits (Some e) = Digits e.digits × (0 < length e.digits)
+
+-- a digit or more stands before the point or after it
+pub record Parts (n : Number) : Type 0 where
+  pub whole : Digits n.whole
+  pub fraction : Digits (fraction_digits n.fraction)
+  pub some : 0 < length (n.whole ++ fraction_digits n.fraction)
+  pub exponent : ExponentDigits n.exponent
+
+-- ---- the text
+
+abbrev pub sign_text : Sign → List ℕ
+sign_text no_sign = []
+sign_text plus = 43 ∷ []
+sign_text minus = 45 ∷ []
+
+abbrev pub letter_byte : Letter → ℕ
+letter_byte letter_e = 69
+letter_byte letter_d = 68
+
+abbrev pub fraction_text : Option (List ℕ) → List ℕ
+fraction_text None = []
+fraction_text (Some f) = 46 ∷ f
+
+abbrev pub exponent_text : Option Exponent → List ℕ
+exponent_text None = []
+exponent_text (Some e) = letter_byte e.letter ∷ (sign_text e.sign ++ e.digits)
+
+abbrev pub text : Number → List ℕ
+text n = sign_text n.sign ++ (n.whole ++ (fraction_text n.fraction ++ exponent_text n.exponent))
+
+-- ---- the double
+
+abbrev pub negative : Sign → Bool
+negative no_sign = false
+negative plus = false
+negative minus = true
+
+-- the number without its point, sign and exponent
+abbrev pub units : Number → ℕ
+units n = decimal 0 (n.whole ++ fraction_digits n.fraction)
+
+-- the powers of ten that it is multiplied by and divided by: each place after the point divides by ten
+abbrev pub up : Option Exponent → ℕ
+up None = 0
+up (Some e) = cond (negative e.sign) 0 (decimal 0 e.digits)
+
+abbrev pub down : Option Exponent → ℕ
+down None = 0
+down (Some e) = cond (negative e.sign) (decimal 0 e.digits) 0
+
+-- the double nearest to m times 10 to the power u through 10 to the power d; 0 has no minus
+abbrev pub rounded : Bool → ℕ → ℕ → ℕ → Float
+rounded neg m u d = round binary64 (neg && ltb 0 m) (m * 10 ^ u) (10 ^ d)
+
+abbrev pub double : Number → Float
+double n = rounded (negative n.sign) (units n) (up n.exponent) (length (fraction_digits n.fraction) + down n.exponent)
+
+-- 15 digits at most, and 22 powers of ten up or down
+abbrev pub within : ℕ → ℕ → ℕ → Bool
+within m u d = ltb m (10 ^ 15) && (leb u (d + 22) && leb d (u + 22))
+
+-- neither a point nor an exponent
+abbrev pub plain : Option (List ℕ) → Option Exponent → Bool
+plain None None = true
+plain None (Some e) = false
+plain (Some f) e = false
+
+abbrev pub is_taken : Number → Bool
+is_taken n =
+    within (units n) (up n.exponent) (length (fraction_digits n.fraction) + down n.exponent)
+    || (plain n.fraction n.exponent && eqb (units n) 9223372036854775808)
+
+abbrev pub value : Number → Option Float
+value n = cond (is_taken n) (Some (double n)) None
