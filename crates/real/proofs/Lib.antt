@@ -2,3 +2,6 @@ pub mod Numbers
 pub mod Powers
 pub mod Texts
 pub mod Reading
+pub mod Splits
+pub mod Laws
+pub mod Examples
