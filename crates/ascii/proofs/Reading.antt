@@ -73,11 +73,11 @@ module _ (a b : List ℕ) (some : length a ≡ 0 → ⊥) where
       sym (number_some (a ++ b) (simp length-append (omega arith))) ∙ sym (from_is 0 (a ++ b) (omega arith)) ∙ from_append 0 a b
       ∙ ap (onward (λ (m : ℕ). number_from m b)) (from_is 0 a (omega arith) ∙ number_some a some)
 
-  pub number_on : (n : ℕ) → n < 2 ^ 64 → Some n ≡ number a → read_on n b ≡ number (a ++ b)
-  number_on n h e = sym (from_is n b h) ∙ ap (onward (λ (m : ℕ). number_from m b)) e ∙ sym number_append
+  pub number_append_some : (n : ℕ) → n < 2 ^ 64 → Some n ≡ number a → read_on n b ≡ number (a ++ b)
+  number_append_some n h e = sym (from_is n b h) ∙ ap (onward (λ (m : ℕ). number_from m b)) e ∙ sym number_append
 
-  pub number_off : None ≡ number a → number (a ++ b) ≡ None
-  number_off e = number_append ∙ ap (onward (λ (m : ℕ). number_from m b)) (sym e)
+  pub number_append_none : None ≡ number a → number (a ++ b) ≡ None
+  number_append_none e = number_append ∙ ap (onward (λ (m : ℕ). number_from m b)) (sym e)
 
 -- at a place of the text
 module _ (n : ℕ) (s : List ℕ) (i : ℕ) where

@@ -1,24 +1,25 @@
 -- The laws of a number's text and of the double that is read of it.
 -- Assumes nothing.
-use Rattle.std.proofs.Common.{◌≡◌, List, ◌++◌, ℕ, true, Some, sym, ◌∙◌}
+use Rattle.std.proofs.Common.{ap, ◌≡◌, List, ◌++◌, ℕ, true, Some, sym, ◌∙◌}
 use Rattle.std.proofs.lemmas.Option.{cond_some}
 use Rattle.std.specs.Float.{Float}
 use Rattle.card.specs.Ends.{follows}
 use Rattle.real.specs.Real.{real_of}
-use Rattle.real.specs.Written.{Number, Parts, text, is_taken, double, value}
+use Rattle.real.specs.Written.{Number, IsNumber, text, is_taken, double, value, proper}
+use Rattle.real.proofs.Finite.{double_proper}
 use Rattle.real.proofs.Reading.{number_value}
 use Rattle.real.proofs.Splits.{split}
 
 -- What is written is read. In front of what may follow a value the text of a number gives the double nearest to it, and of a number that is
 -- outside the limits nothing is read.
-pub written_read : (n : Number) (r : List ℕ) → Parts n → follows r ≡ true → real_of (text n ++ r) ≡ value n
+pub written_read : (n : Number) (r : List ℕ) → IsNumber n → follows r ≡ true → real_of (text n ++ r) ≡ value n
 written_read n r p f = number_value r f n p
 
 -- a text as a number that is taken, in front of what may follow a value, and the double nearest to that number
 pub record Says (s : List ℕ) (x : Float) : Type 0 where
   pub number : Number
   pub rest : List ℕ
-  pub parts : Parts number
+  pub parts : IsNumber number
   pub follows : follows rest ≡ true
   pub is : s ≡ text number ++ rest
   pub taken : is_taken number ≡ true
@@ -31,3 +32,9 @@ read_written s x h =
     let v : value p.number ≡ Some x = sym (number_value p.rest p.follows p.number p.parts) ∙ rw p.is at h in
     let t = cond_some (is_taken p.number) (double p.number) x v in
     record { number = p.number; rest = p.rest; parts = p.parts; follows = p.follows; is = p.is; taken = t.0; double = sym t.1 }
+
+-- No number that is read is a NaN or an infinity, or a zero with a minus.
+pub finite : (s : List ℕ) (x : Float) → real_of s ≡ Some x → proper x ≡ true
+finite s x h =
+    let r = read_written s x h in
+    ap proper r.double ∙ double_proper r.number r.taken

@@ -5,3 +5,4 @@ pub mod Reading
 pub mod Splits
 pub mod Laws
 pub mod Examples
+pub mod Finite

@@ -8,7 +8,7 @@ use Rattle.ascii.specs.Text.{decimal}
 use Rattle.card.specs.Ends.{follows}
 use Rattle.card.specs.Value.{signed}
 use Rattle.real.specs.Real.{is_minus, after_sign, digits, after_digits, has_point, fraction, after_number, has_exponent, nearest, limited, with_exponent, without_exponent, unsigned, real_of}
-use Rattle.real.specs.Written.{Exponent, Number, fraction_digits, Digits, ExponentDigits, Parts, sign_text, fraction_text, exponent_text, text, negative, up, down, rounded, within, plain, value}
+use Rattle.real.specs.Written.{Exponent, Number, fraction_digits, Digits, ExponentDigits, IsNumber, sign_text, fraction_text, exponent_text, text, negative, up, down, rounded, within, plain, value}
 use Rattle.real.proofs.Powers.{limited_is, power_is, places_is, nearest_is}
 use Rattle.real.proofs.Texts.{digits_are, after_is, Other, other_after, no_exponent, other_letter, an_exponent, Bare, bare_digits, minus_is, unsigned_is}
 
@@ -107,7 +107,7 @@ module _ (r : List ℕ) (f : follows r ≡ true) where
   bare_number [] (Some g) t d h = record { minus = refl; plus = refl }
   bare_number (b ∷ w) g t d h = bare_digits (b ∷ w) (fraction_text g ++ t) d (omega arith)
 
-  pub number_value : (n : Number) → Parts n → real_of (text n ++ r) ≡ value n
+  pub number_value : (n : Number) → IsNumber n → real_of (text n ++ r) ≡ value n
   number_value n p =
       let g = fraction_text n.fraction in
       let e = exponent_text n.exponent in

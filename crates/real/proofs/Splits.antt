@@ -9,7 +9,7 @@ use Rattle.ascii.specs.Text.{front, digit, decimal}
 use Rattle.ascii.proofs.Cases.{either, both}
 use Rattle.card.specs.Ends.{follows}
 use Rattle.real.specs.Real.{first, is_minus, after_sign, digits, after_digits, has_point, fraction, all_digits, after_number, has_exponent, with_exponent, without_exponent, unsigned, real_of}
-use Rattle.real.specs.Written.{Sign, no_sign, plus, minus, Letter, letter_e, letter_d, Exponent, Number, fraction_digits, Digits, ExponentDigits, Parts, sign_text, letter_byte, fraction_text, exponent_text, text}
+use Rattle.real.specs.Written.{Sign, no_sign, plus, minus, Letter, letter_e, letter_d, Exponent, Number, fraction_digits, Digits, ExponentDigits, IsNumber, sign_text, letter_byte, fraction_text, exponent_text, text}
 use Rattle.real.proofs.Numbers.{digits_only}
 
 none_some : {x : Float} → ◌≡◌ {A = Option Float} None (Some x) → ⊥
@@ -75,7 +75,7 @@ module _ (x : Float) (neg : Bool) (m places : ℕ) where
 pub record Split (s : List ℕ) : Type 0 where
   pub number : Number
   pub rest : List ℕ
-  pub parts : Parts number
+  pub parts : IsNumber number
   pub follows : follows rest ≡ true
   pub is : s ≡ text number ++ rest
 

@@ -1,7 +1,7 @@
 -- A real number as it is written: the parts of its text, the text, and the double that the parts stand for. Laws cite these.
 -- Assumes nothing.
-use Rattle.std.specs.Prelude.{◌≡◌, ℕ, ◌+◌, ◌*◌, ◌^◌, ◌<◌, List, [], ◌∷◌, ◌++◌, Bool, true, false, ◌&&◌, ◌||◌, cond, length, eqb, ltb, leb, Option, Some, None}
-use Rattle.std.specs.Float.{Float, binary64}
+use Rattle.std.specs.Prelude.{◌≡◌, ℕ, ◌+◌, ◌*◌, ◌^◌, ◌<◌, List, [], ◌∷◌, ◌++◌, Bool, true, false, not, ◌&&◌, ◌||◌, cond, length, eqb, ltb, leb, Option, Some, None}
+use Rattle.std.specs.Float.{Float, nan, inf, fin, binary64}
 use Rattle.std.specs.Float.Ieee.{round}
 use Rattle.ascii.specs.Text.{front, digit, decimal}
 
@@ -18,7 +18,7 @@ pub record Exponent : Type 0 where
   pub sign : Sign
   pub digits : List ℕ
 
--- the digits before the point, and those after it if there is a point
+-- the sign, the digits before the point, those after it if there is a point, and the exponent if there is one
 pub record Number : Type 0 where
   pub sign : Sign
   pub whole : List ℕ
@@ -39,7 +39,7 @@ ExponentDigits None = Unit {0}
 ExponentDigits (Some e) = Digits e.digits × (0 < length e.digits)
 
 -- a digit or more stands before the point or after it
-pub record Parts (n : Number) : Type 0 where
+pub record IsNumber (n : Number) : Type 0 where
   pub whole : Digits n.whole
   pub fraction : Digits (fraction_digits n.fraction)
   pub some : 0 < length (n.whole ++ fraction_digits n.fraction)
@@ -75,8 +75,8 @@ negative plus = false
 negative minus = true
 
 -- the number without its point, sign and exponent
-abbrev pub units : Number → ℕ
-units n = decimal 0 (n.whole ++ fraction_digits n.fraction)
+abbrev pub unscaled : Number → ℕ
+unscaled n = decimal 0 (n.whole ++ fraction_digits n.fraction)
 
 -- the powers of ten that it is multiplied by and divided by: each place after the point divides by ten
 abbrev pub up : Option Exponent → ℕ
@@ -92,7 +92,7 @@ abbrev pub rounded : Bool → ℕ → ℕ → ℕ → Float
 rounded neg m u d = round binary64 (neg && ltb 0 m) (m * 10 ^ u) (10 ^ d)
 
 abbrev pub double : Number → Float
-double n = rounded (negative n.sign) (units n) (up n.exponent) (length (fraction_digits n.fraction) + down n.exponent)
+double n = rounded (negative n.sign) (unscaled n) (up n.exponent) (length (fraction_digits n.fraction) + down n.exponent)
 
 -- 15 digits at most, and 22 powers of ten up or down
 abbrev pub within : ℕ → ℕ → ℕ → Bool
@@ -106,8 +106,14 @@ plain (Some f) e = false
 
 abbrev pub is_taken : Number → Bool
 is_taken n =
-    within (units n) (up n.exponent) (length (fraction_digits n.fraction) + down n.exponent)
-    || (plain n.fraction n.exponent && eqb (units n) 9223372036854775808)
+    within (unscaled n) (up n.exponent) (length (fraction_digits n.fraction) + down n.exponent)
+    || (plain n.fraction n.exponent && eqb (unscaled n) 9223372036854775808)
 
 abbrev pub value : Number → Option Float
 value n = cond (is_taken n) (Some (double n)) None
+
+-- a finite number, and no zero with a minus
+abbrev pub proper : Float → Bool
+proper nan = false
+proper (inf s) = false
+proper (fin s m e) = not (s && eqb m 0)

@@ -1,7 +1,8 @@
-// A real number as a record's value, and the double nearest to it.
+// A real number as a record's value, and the double nearest to it: digits with at most one point, and an exponent or
+// none. Of more than 15 digits, or a power of ten past 22 either way, nothing is read, with one exception (double.rt).
 #![tactic(auto)]
 
-mod number;
+mod double;
 mod parts;
 
 ghost use Rattle.std.specs.Prelude.{◌≡◌};
@@ -14,7 +15,7 @@ fn parse_text(text: &[u8]) -> Option<f64>
     ensures { result ≡ real_of text.now }
 {
     let (minus, rest) = split_sign(text);
-    number::unsigned(minus, rest)
+    double::unsigned(minus, rest)
 }
 
 // The real number that a record's value is.

@@ -35,6 +35,7 @@ pub fn split_digits(text: &[u8]) -> (&[u8], &[u8])
     text.split_at(ascii::leading_digits(text))
 }
 
+// The digits in front with at most one point among them.
 pub fn split_number(text: &[u8]) -> Parts<'_>
     ensures whole { result.whole.now ≡ digits text.now }
     ensures point { result.point ≡ has_point text.now }
@@ -72,7 +73,7 @@ pub fn after_letter(text: &[u8]) -> Option<&[u8]>
 }
 
 // The number that digits before and after a point stand for together, as if it were not there.
-#[tactic(auto, using(ascii::proofs::Reading::number_on, ascii::proofs::Reading::number_off))]
+#[tactic(auto, using(ascii::proofs::Reading::number_append_some, ascii::proofs::Reading::number_append_none))]
 pub fn joined_number(whole: &[u8], fraction: &[u8]) -> Option<usize>
     ensures { result ≡ number (whole.now ++ fraction.now) }
 {

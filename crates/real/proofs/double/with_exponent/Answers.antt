@@ -2,7 +2,7 @@
 use Rattle.std.proofs.Common.{arith}
 use Rattle.std.proofs.lemmas.Int.{to_z-of_z}
 use Rattle.real.proofs.Numbers.{exponent_read}
-use Rattle.real.proofs.number.with_exponent.Goals as goal
+use Rattle.real.proofs.double.with_exponent.Goals as goal
 
 pub returns : goal.returns
 returns c = grind (arith, to_z-of_z, exponent_read)
