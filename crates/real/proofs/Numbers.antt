@@ -11,12 +11,9 @@ use Rattle.ascii.proofs.Cases.{either}
 use Rattle.card.specs.Ends.{follows}
 use Rattle.card.specs.Value.{signed}
 use Rattle.real.specs.Real.{power_ok, limited, digits, after_digits, after_sign, is_minus, fraction, all_digits, after_number, has_exponent, has_point, with_exponent, without_exponent, unsigned}
+use Rattle.real.specs.Written.{Digits}
 
 -- ---- lists of digits
-
--- digits only
-abbrev pub Digits : List ℕ → Type 0
-Digits s = front digit s ≡ length s
 
 pub digits_only : (s : List ℕ) → Digits (digits s)
 unfolding front

@@ -42,7 +42,7 @@ module _ (neg : Bool) (m places : ℕ) where
   exponent_at s t x r n a b c d h f = rw (a, b, c, d, lt-ltb 0 (length x) h, f)
 
 -- what comes after the digits
-abbrev rest_of : Bool → ℕ → Bool → ℕ → List ℕ → Option Float
+abbrev pub rest_of : Bool → ℕ → Bool → ℕ → List ℕ → Option Float
 rest_of neg m point places u = cond (has_exponent u) (with_exponent neg m places (drop 1 u)) (without_exponent neg m point places u)
 
 unsigned_at : (neg : Bool) (s w f u : List ℕ) (p : Bool) → digits s ≡ w → fraction s ≡ f → after_number s ≡ u → has_point s ≡ p → 0 < length (w ++ f)

@@ -1,6 +1,6 @@
 -- What is read is written: a text of which a number is read is put together of parts.
 -- Assumes nothing.
-use Rattle.std.proofs.Common.{◌≡◌, ℕ, ◌<◌, List, [], ◌∷◌, ◌++◌, Bool, true, ◌&&◌, length, drop, cond, Some, None, refl, sym, ap, ◌∙◌, arith, append_assoc}
+use Rattle.std.proofs.Common.{◌≡◌, ℕ, ◌<◌, List, [], ◌∷◌, ◌++◌, Bool, true, ◌&&◌, length, drop, Some, None, refl, sym, ap, ◌∙◌, arith, append_assoc}
 use Rattle.std.specs.Prelude.{Option, ltb, eqb}
 use Rattle.std.specs.Float.{Float}
 use Rattle.std.proofs.lemmas.List.{take-append-drop}
@@ -8,9 +8,10 @@ use borrow.Author.Tests.{ltb-true, eqb-true}
 use Rattle.ascii.specs.Text.{front, digit, decimal}
 use Rattle.ascii.proofs.Cases.{either, both}
 use Rattle.card.specs.Ends.{follows}
-use Rattle.real.specs.Real.{first, is_minus, after_sign, digits, after_digits, has_point, fraction, all_digits, after_number, has_exponent, with_exponent, without_exponent, unsigned, real_of}
+use Rattle.real.specs.Real.{first, is_minus, after_sign, digits, after_digits, has_point, fraction, all_digits, after_number, with_exponent, without_exponent, unsigned, real_of}
 use Rattle.real.specs.Written.{Sign, no_sign, plus, minus, Letter, letter_e, letter_d, Exponent, Number, fraction_digits, Digits, ExponentDigits, IsNumber, sign_text, letter_byte, fraction_text, exponent_text, text}
 use Rattle.real.proofs.Numbers.{digits_only}
+use Rattle.real.proofs.Reading.{rest_of}
 
 none_some : {x : Float} → ◌≡◌ {A = Option Float} None (Some x) → ⊥
 none_some e = cc
@@ -59,8 +60,7 @@ module _ (x : Float) (neg : Bool) (m places : ℕ) where
       })
       (λ q. absurd (none_some (rw q at h)))
 
-  tail : (point : Bool) (u : List ℕ)
-      → cond (has_exponent u) (with_exponent neg m places (drop 1 u)) (without_exponent neg m point places u) ≡ Some x → Tail u
+  tail : (point : Bool) (u : List ℕ) → rest_of neg m point places u ≡ Some x → Tail u
   unfolding without_exponent
   tail point u h =
       either (eqb (first u) 69)

@@ -87,7 +87,7 @@ abbrev pub down : Option Exponent → ℕ
 down None = 0
 down (Some e) = cond (negative e.sign) (decimal 0 e.digits) 0
 
--- the double nearest to m times 10 to the power u through 10 to the power d; 0 has no minus
+-- the double nearest to m times 10 to the power u divided by 10 to the power d; 0 has no minus
 abbrev pub rounded : Bool → ℕ → ℕ → ℕ → Float
 rounded neg m u d = round binary64 (neg && ltb 0 m) (m * 10 ^ u) (10 ^ d)
 
@@ -104,6 +104,7 @@ plain None None = true
 plain None (Some e) = false
 plain (Some f) e = false
 
+-- within the limits, or 9223372036854775808 with neither a point nor an exponent
 abbrev pub is_taken : Number → Bool
 is_taken n =
     within (unscaled n) (up n.exponent) (length (fraction_digits n.fraction) + down n.exponent)
