@@ -8,8 +8,9 @@ mod tables;
 mod turning;
 
 use readers::{
-    cfitsio, cfitsio_open, fitsrs_header, fitsrs_next, fitsrs_rows, our_layout, ours, thread_time,
-    CELL_READ, LENT_CELL_READ, LONGEST_ROW, ROW_READ,
+    cfitsio, cfitsio_open, fitsrs_header, fitsrs_next, fitsrs_next_scaled, fitsrs_rows,
+    fitsrs_rows_scaled, our_layout, ours, ours_scaled, thread_time, CELL_READ, LENT_CELL_READ,
+    LONGEST_ROW, ROW_READ,
 };
 use std::hint::black_box;
 use std::time::{Duration, Instant};
@@ -47,6 +48,25 @@ struct Figures {
     row_chunks: f64,
 }
 
+/// Each reader's ns a cell, alone and by those of a cell read and of a row read; nothing of one that was not timed.
+fn print_readers(rows: &[(&str, f64)], cell_read: f64, row_read: f64) {
+    println!(
+        "  {:30} {:>10} {:>12} {:>12}",
+        "", "ns a cell", "/ cell read", "/ row read"
+    );
+    for (reader, ns) in rows.iter().filter(|(_, ns)| *ns > 0.0) {
+        let to_row_read = match row_read > 0.0 {
+            true => format!("{:.2}", ns / row_read),
+            false => "-".to_string(),
+        };
+        println!(
+            "  {reader:30} {ns:10.2} {:12.2} {to_row_read:>12}",
+            ns / cell_read
+        );
+    }
+    println!();
+}
+
 fn time_table(name: &str, table: &Table, choice: &[usize]) -> Figures {
     let cells = table.cells(choice) as f64;
     let sum: u64 = table.sum_by_rows(choice).into();
@@ -79,27 +99,46 @@ fn time_table(name: &str, table: &Table, choice: &[usize]) -> Figures {
         }),
     ];
     let (cell_read, row_read) = (rows[0].1, rows[2].1);
-    println!(
-        "  {:30} {:>10} {:>12} {:>12}",
-        "", "ns a cell", "/ cell read", "/ row read"
-    );
-    for (reader, ns) in rows.into_iter().filter(|(_, ns)| *ns > 0.0) {
-        let to_row_read = match listed {
-            true => format!("{:.2}", ns / row_read),
-            false => "-".to_string(),
-        };
-        println!(
-            "  {reader:30} {ns:10.2} {:12.2} {to_row_read:>12}",
-            ns / cell_read
-        );
-    }
-    println!();
+    print_readers(&rows, cell_read, row_read);
     Figures {
         cell_read,
         row_read,
         row_iterator: rows[4].1,
         row_chunks: rows[6].1,
     }
+}
+
+/// Scaled reads of all columns, beside the plain ones and fitsrs, whose values are scaled as they come.
+fn time_scaled(name: &str, table: &Table) {
+    let choice = table.all_columns();
+    let cells = table.cells(&choice) as f64;
+    let plain_sum: u64 = table.sum_by_rows(&choice).into();
+    let sum: u64 = table.scaled_sum().into();
+    println!("{name}: {cells} cells");
+    let time = |reader: &'static str, sum: u64, run: &mut dyn FnMut() -> u64| {
+        (reader, best(reader, sum, run) / cells)
+    };
+    let rows = [
+        time("ours, scaled cell read", sum, &mut || {
+            ours_scaled(CELL_READ, table)
+        }),
+        time("ours, scaled row read", sum, &mut || {
+            ours_scaled(ROW_READ, table)
+        }),
+        time("ours, cell read", plain_sum, &mut || {
+            ours(CELL_READ, table, &choice)
+        }),
+        time("ours, row read", plain_sum, &mut || {
+            ours(ROW_READ, table, &choice)
+        }),
+        time("fitsrs, next, then scaled", sum, &mut || {
+            fitsrs_next_scaled(table)
+        }),
+        time("fitsrs, row iterator, scaled", sum, &mut || {
+            fitsrs_rows_scaled(table)
+        }),
+    ];
+    print_readers(&rows, rows[0].1, rows[1].1);
 }
 
 /// How many times faster the layout is than fitsrs's.
@@ -200,6 +239,19 @@ fn main() {
         &arrays.all_columns(),
     );
     let five = time_table("(v) columns 3, 20 and 37 of (i)", &singles, &[3, 20, 37]);
+    let scaled = [
+        ('E', "0.25", "-1.5"),
+        ('I', "0.001", "20"),
+        ('J', "1.25E-3", "-273.15"),
+    ];
+    let columns = (0..63).map(|c| {
+        let (letter, tscal, tzero) = scaled[c % 3];
+        Column::scaled(letter, tscal, tzero)
+    });
+    time_scaled(
+        "(vi) 63 columns of E, I and J with TSCALn and TZEROn, 50000 rows, scaled reads",
+        &Table::new(columns.collect(), 50_000, 0),
+    );
     let headers = [144, 720].map(time_header);
 
     growth_heading(

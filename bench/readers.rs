@@ -1,14 +1,23 @@
 //! The readers that are timed. Each reads all chosen cells of a table, from the opening on, and gives their checksum.
 
-use crate::tables::{add, add_place, Table};
+use crate::tables::{add, add_double, add_place, Table};
 use fitsrs::hdu::data::bintable::{ColumnId, DataValue};
 use fitsrs::{parse_header, row_of, TableData};
 use std::hint::black_box;
 use std::io::Cursor;
 
-/// A sum over a header, a data area and indexes of columns, each by pointer and length, with the heap on or off.
-pub type Sum =
-    unsafe extern "C" fn(*const u8, usize, *const u8, usize, *const usize, usize, bool) -> u64;
+/// A sum over a header, a data area and indexes of columns, each by pointer and length, with the heap on or off, in the
+/// plain or the scaled reading.
+pub type Sum = unsafe extern "C" fn(
+    *const u8,
+    usize,
+    *const u8,
+    usize,
+    *const usize,
+    usize,
+    bool,
+    bool,
+) -> u64;
 
 /// A header, a data area and the buffer that it is written to, each by pointer and length.
 pub type Turn = unsafe extern "C" fn(*const u8, usize, *const u8, usize, *mut u8, usize) -> u64;
@@ -16,9 +25,9 @@ pub type Turn = unsafe extern "C" fn(*const u8, usize, *const u8, usize, *mut u8
 mod library {
     #[rustfmt::skip]
     extern "C" {
-        pub fn coentrift_sum_cells(header: *const u8, header_len: usize, area: *const u8, area_len: usize, cols: *const usize, ncols: usize, heap: bool) -> u64;
-        pub fn coentrift_sum_lent(header: *const u8, header_len: usize, area: *const u8, area_len: usize, cols: *const usize, ncols: usize, heap: bool) -> u64;
-        pub fn coentrift_sum_rows(header: *const u8, header_len: usize, area: *const u8, area_len: usize, cols: *const usize, ncols: usize, heap: bool) -> u64;
+        pub fn coentrift_sum_cells(header: *const u8, header_len: usize, area: *const u8, area_len: usize, cols: *const usize, ncols: usize, heap: bool, scaled: bool) -> u64;
+        pub fn coentrift_sum_lent(header: *const u8, header_len: usize, area: *const u8, area_len: usize, cols: *const usize, ncols: usize, heap: bool, scaled: bool) -> u64;
+        pub fn coentrift_sum_rows(header: *const u8, header_len: usize, area: *const u8, area_len: usize, cols: *const usize, ncols: usize, heap: bool, scaled: bool) -> u64;
         pub fn coentrift_layout(header: *const u8, header_len: usize, area: *const u8, area_len: usize) -> u64;
         pub fn coentrift_turn(header: *const u8, header_len: usize, from: *const u8, from_len: usize, to: *mut u8, to_len: usize) -> u64;
         pub fn coentrift_turn_back(header: *const u8, header_len: usize, from: *const u8, from_len: usize, to: *mut u8, to_len: usize) -> u64;
@@ -40,6 +49,15 @@ pub const TURN: Turn = library::coentrift_turn;
 pub const TURN_BACK: Turn = library::coentrift_turn_back;
 
 pub fn ours(sum: Sum, table: &Table, choice: &[usize]) -> u64 {
+    ours_in(sum, table, choice, false)
+}
+
+/// All columns, each cell with its scaled value.
+pub fn ours_scaled(sum: Sum, table: &Table) -> u64 {
+    ours_in(sum, table, &table.all_columns(), true)
+}
+
+fn ours_in(sum: Sum, table: &Table, choice: &[usize], scaled: bool) -> u64 {
     let (header, area) = (&table.header, &table.area);
     unsafe {
         sum(
@@ -50,6 +68,7 @@ pub fn ours(sum: Sum, table: &Table, choice: &[usize]) -> u64 {
             choice.as_ptr(),
             choice.len(),
             true,
+            scaled,
         )
     }
 }
@@ -99,24 +118,37 @@ pub fn snprintf_page(table: &Table, row: usize, decimals: i32, page: &mut [u8]) 
     unsafe { library::snprintf_page(items.as_ptr(), count, row, decimals, page.as_mut_ptr()) }
 }
 
+fn index(column: &ColumnId) -> usize {
+    match column {
+        ColumnId::Index(column) => *column,
+        ColumnId::Name(_) => unreachable!("the crate gives columns by index"),
+    }
+}
+
 /// A sum with a cell: its place, then its value's bits.
 fn add_cell(sum: u32, row: usize, value: &DataValue) -> u32 {
-    let placed = |column: &ColumnId, idx: &usize| match column {
-        ColumnId::Index(column) => add_place(sum, row, *column, *idx),
-        ColumnId::Name(_) => unreachable!("the crate gives columns by index"),
-    };
+    let placed = |column: &ColumnId, idx: &usize| add_place(sum, row, index(column), *idx);
     match value {
         DataValue::Short { value, column, idx } => {
             add(placed(column, idx), u32::from(*value as u16))
         }
         DataValue::Integer { value, column, idx } => add(placed(column, idx), *value as u32),
         DataValue::Float { value, column, idx } => add(placed(column, idx), value.to_bits()),
-        DataValue::Double { value, column, idx } => {
-            let bits = value.to_bits();
-            add(add(placed(column, idx), (bits >> 32) as u32), bits as u32)
-        }
+        DataValue::Double { value, column, idx } => add_double(placed(column, idx), *value),
         _ => unreachable!("the tables have I, J, E and D"),
     }
+}
+
+/// The same with the scaled value, which the crate does not have: it is worked out here.
+fn add_scaled(sum: u32, row: usize, value: &DataValue, scalings: &[(f64, f64)]) -> u32 {
+    let (column, idx, stored) = match value {
+        DataValue::Short { value, column, idx } => (index(column), *idx, f64::from(*value)),
+        DataValue::Integer { value, column, idx } => (index(column), *idx, f64::from(*value)),
+        DataValue::Float { value, column, idx } => (index(column), *idx, f64::from(*value)),
+        _ => unreachable!("the scaled columns are I, J and E"),
+    };
+    let (factor, zero) = scalings[column];
+    add_double(add_place(sum, row, column, idx), zero + factor * stored)
 }
 
 fn fitsrs_table<'a>(table: &'a Table, choice: &[usize]) -> TableData<Cursor<&'a [u8]>> {
@@ -129,7 +161,7 @@ fn fitsrs_table<'a>(table: &'a Table, choice: &[usize]) -> TableData<Cursor<&'a 
     data
 }
 
-pub fn fitsrs_next(table: &Table, choice: &[usize]) -> u64 {
+fn sum_next(table: &Table, choice: &[usize], add: impl Fn(u32, usize, &DataValue) -> u32) -> u64 {
     let mut values = fitsrs_table(table, choice);
     let mut sum = 0;
     loop {
@@ -137,17 +169,39 @@ pub fn fitsrs_next(table: &Table, choice: &[usize]) -> u64 {
         let Some(value) = values.next() else {
             return sum.into();
         };
-        sum = add_cell(sum, row, &value);
+        sum = add(sum, row, &value);
     }
 }
 
-pub fn fitsrs_rows(table: &Table, choice: &[usize]) -> u64 {
+fn sum_rows(table: &Table, choice: &[usize], add: impl Fn(u32, usize, &DataValue) -> u32) -> u64 {
     let rows = fitsrs_table(table, choice).row_iter().enumerate();
     rows.fold(0, |sum, (row, values)| {
-        let add = |sum, value| add_cell(sum, row, value);
-        values.iter().fold(sum, add)
+        values.iter().fold(sum, |sum, value| add(sum, row, value))
     })
     .into()
+}
+
+pub fn fitsrs_next(table: &Table, choice: &[usize]) -> u64 {
+    sum_next(table, choice, add_cell)
+}
+
+pub fn fitsrs_rows(table: &Table, choice: &[usize]) -> u64 {
+    sum_rows(table, choice, add_cell)
+}
+
+/// All columns, each cell with its scaled value.
+pub fn fitsrs_next_scaled(table: &Table) -> u64 {
+    let scalings = table.scalings();
+    sum_next(table, &table.all_columns(), |sum, row, value| {
+        add_scaled(sum, row, value, &scalings)
+    })
+}
+
+pub fn fitsrs_rows_scaled(table: &Table) -> u64 {
+    let scalings = table.scalings();
+    sum_rows(table, &table.all_columns(), |sum, row, value| {
+        add_scaled(sum, row, value, &scalings)
+    })
 }
 
 /// Every record and then the layout; gives the number of columns.

@@ -9,6 +9,14 @@ pub struct Column {
     letter: char,
     count: usize,
     is_array: bool,
+    scaling: Option<Scaling>,
+}
+
+/// The factor and the zero of a column, as the header has them.
+#[derive(Clone, Copy)]
+struct Scaling {
+    tscal: &'static str,
+    tzero: &'static str,
 }
 
 pub struct Table {
@@ -47,6 +55,12 @@ pub fn add(sum: u32, word: u32) -> u32 {
     sum.wrapping_mul(31).wrapping_add(word)
 }
 
+/// A sum with the bits of a double, the high word first.
+pub fn add_double(sum: u32, value: f64) -> u32 {
+    let bits = value.to_bits();
+    add(add(sum, (bits >> 32) as u32), bits as u32)
+}
+
 /// A sum with the place of a cell.
 pub fn add_place(sum: u32, row: usize, column: usize, idx: usize) -> u32 {
     add(add(add(sum, row as u32), column as u32), idx as u32)
@@ -77,15 +91,30 @@ impl Column {
             letter,
             count,
             is_array: false,
+            scaling: None,
         }
     }
 
     pub fn array_of_j(count: usize) -> Column {
         Column {
-            letter: 'J',
-            count,
             is_array: true,
+            ..Column::of('J', count)
         }
+    }
+
+    /// A column with TSCALn and TZEROn.
+    pub fn scaled(letter: char, tscal: &'static str, tzero: &'static str) -> Column {
+        Column {
+            scaling: Some(Scaling { tscal, tzero }),
+            ..Column::of(letter, 1)
+        }
+    }
+
+    /// The factor and the zero.
+    fn scaling(&self) -> (f64, f64) {
+        let number = |text: &str| text.parse().expect("the text is a number");
+        self.scaling
+            .map_or((1.0, 0.0), |s| (number(s.tscal), number(s.tzero)))
     }
 
     fn form(&self) -> String {
@@ -266,6 +295,38 @@ impl Table {
         })
     }
 
+    /// The factor and the zero of each column.
+    pub fn scalings(&self) -> Vec<(f64, f64)> {
+        self.columns.iter().map(Column::scaling).collect()
+    }
+
+    /// The sum of the cells of all columns, row by row, each with its scaled value. No column is an array.
+    pub fn scaled_sum(&self) -> u32 {
+        let mut sum = 0;
+        for row in 0..self.rows {
+            let mut at = row * self.row_width;
+            for (c, column) in self.columns.iter().enumerate() {
+                let (factor, zero) = column.scaling();
+                for i in 0..column.count {
+                    let value = zero + factor * self.stored(at, column.letter);
+                    sum = add_double(add_place(sum, row, c, i), value);
+                    at += column.item_width();
+                }
+            }
+        }
+        sum
+    }
+
+    /// The number of an item.
+    fn stored(&self, at: usize, letter: char) -> f64 {
+        match letter {
+            'I' => f64::from(self.word(at, 2) as u16 as i16),
+            'J' => f64::from(self.word(at, 4) as i32),
+            'E' => f64::from(f32::from_bits(self.word(at, 4))),
+            _ => unreachable!("the scaled columns are I, J and E"),
+        }
+    }
+
     fn add_field(&self, sum: u32, row: usize, c: usize) -> u32 {
         let column = self.columns[c];
         let start: usize = self.columns[..c].iter().map(Column::width).sum();
@@ -320,6 +381,10 @@ fn header(
             &format!("TFORM{}", i + 1),
             &format!("'{:8}' / form", column.form()),
         ));
+        if let Some(Scaling { tscal, tzero }) = column.scaling {
+            list.push(record(&format!("TSCAL{}", i + 1), &format!("{tscal:>20}")));
+            list.push(record(&format!("TZERO{}", i + 1), &format!("{tzero:>20}")));
+        }
     }
     while list.len() + 1 < records {
         let n = list.len();

@@ -23,8 +23,16 @@ use kinds::{difference, Case, FEW, KINDS};
 use reader::{doubled, expected, open, Lengths, Open};
 use std::thread;
 
-type Sum =
-    unsafe extern "C" fn(*const u8, usize, *const u8, usize, *const usize, usize, bool) -> u64;
+type Sum = unsafe extern "C" fn(
+    *const u8,
+    usize,
+    *const u8,
+    usize,
+    *const usize,
+    usize,
+    bool,
+    bool,
+) -> u64;
 
 extern "C" {
     fn coentrift_replay(
@@ -49,6 +57,7 @@ extern "C" {
         cols: *const usize,
         cols_len: usize,
         heap: bool,
+        scaled: bool,
     ) -> u64;
     fn coentrift_sum_lent(
         header: *const u8,
@@ -58,6 +67,7 @@ extern "C" {
         cols: *const usize,
         cols_len: usize,
         heap: bool,
+        scaled: bool,
     ) -> u64;
     fn coentrift_sum_rows(
         header: *const u8,
@@ -67,6 +77,7 @@ extern "C" {
         cols: *const usize,
         cols_len: usize,
         heap: bool,
+        scaled: bool,
     ) -> u64;
 }
 
@@ -107,7 +118,7 @@ fn replayed(file: &[u8], steps: &[u8], room: usize) -> Vec<u8> {
     out
 }
 
-/// A checksum by the port. A choice of all columns is given as their list.
+/// A checksum by the port, of plain reads. A choice of all columns is given as their list.
 fn port_sum(sum: Sum, header: &[u8], area: &[u8], choice: &Choice) -> u64 {
     let columns = choice.given.as_ref().unwrap_or(&choice.columns);
     // SAFETY: each pointer comes with its length.
@@ -120,6 +131,7 @@ fn port_sum(sum: Sum, header: &[u8], area: &[u8], choice: &Choice) -> u64 {
             columns.as_ptr(),
             columns.len(),
             choice.heap,
+            false,
         )
     }
 }

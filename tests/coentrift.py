@@ -112,6 +112,7 @@ STARS = b'**********'
 NO_EDITION = 'there is no edition but 1 and 2'
 NO_COLUMN = 'the table has no such column'
 NO_E = 'the column is not of form E (PE is another form)'
+SCALED = 'the column has TSCALn or TZEROn, and such a column has no page'
 
 
 def nearest(size, edition):
@@ -156,6 +157,8 @@ def page(layout, header, area, words):
     column = layout.columns[index]
     if column.form != 'E':
         raise Refused(15, 0, NO_E)
+    if column.scaling is not None:
+        raise Refused(15, 0, SCALED)
     if row >= layout.rows:
         raise Refused(12, row)
     if 27 * column.count > ROOM:
@@ -180,6 +183,8 @@ TEXTS = {
     10: 'the file is shorter than its header says: the data need NAXIS1 x NAXIS2 + PCOUNT bytes',
     12: 'row {place}, counted from 0, is no row of the table',
     14: 'the page takes {place} bytes, 27 a line, and there is room for 155,344 lines',
+    16: 'TSCAL{place} or TZERO{place} is not a number that this reader takes, is given twice, or stands at a column '
+        'whose type has no scaling: those of B, I, J, K, E and D have one',
 }
 EMPTY = 'the file is empty'
 WHOLE = ('; this looks like a whole FITS file, whose table is an extension: cut off what stands before it '
@@ -768,12 +773,12 @@ SHOWN_PAGES = [('0', '1', '''\
 ''')]
 
 
-def weights_file(forms, rows, area, names=(), heap=b''):
-    """A file of a table: the rows' bytes and the heap's, names without doubled quotes."""
+def weights_file(forms, rows, area, names=(), heap=b'', more=()):
+    """A file of a table: the rows' bytes and the heap's, names without doubled quotes, and more records."""
     width = sum(form_of(text(form))[2] for form in forms)
     assert len(area) == rows * width
     named_so = [None if name is None else doubled(text(name)) for name in names]
-    return ended(table(forms, width, rows=rows, pcount=len(heap), names=named_so)) + area + heap
+    return ended(table(forms, width, rows=rows, pcount=len(heap), names=named_so) + list(more)) + area + heap
 
 
 def shown_page():
@@ -918,6 +923,38 @@ def order_cases():
     for column in ('0', '2', 'p', 'd'):
         made.append(paged('rows of no bytes', empty, [column, '0', '2'], refused_with(15, 0, NO_E)))
     return made + [paged('rows of no bytes', empty, ['w', '16777216', '2'], refused_with(12, 16777216))]
+
+
+# TSCALn and TZEROn of column 2, an E column, and what is said of it
+SCALINGS = [
+    ([('TSCAL2', '2')], SCALED), ([('TZERO2', '0')], SCALED), ([('TSCAL2', '1'), ('TZERO2', '0.0')], SCALED),
+    ([('TSCAL1', '2'), ('TZERO1', '32768')], None), ([('TSCAL5', '2'), ('TZERO5', 'x')], None),
+    ([('TSCAL02', '2')], None), ([('TSCAL3', '-1E-3'), ('TZERO4', '1')], None),
+]
+BAD_SCALINGS = [
+    ([('TSCAL2', '1E23')], 2), ([('TZERO2', "'1'")], 2), ([('TZERO2', '1'), ('TZERO2', '1')], 2), ([('TSCAL3', '')], 3),
+    ([('TZERO4', '.')], 4), ([('TSCAL4', '1e5'), ('TSCAL1', '1234567890123456')], 1),
+]
+
+
+def scaling_cases():
+    """Columns with a factor or a zero have no page, and the page of a column does not ask for that of another one."""
+    made, forms, names = [], ['1I', '2E', '1E', '1PJ'], ['POS', 'WEIGHT', 'OTHER', 'LIST']
+    for pairs, said in SCALINGS:
+        more = [keyword(name, value) for name, value in pairs]
+        file = weights_file(forms, 3, seeded('scaling', 3 * 22), names, more=more)
+        for row, edition in itertools.product('03', '123'):
+            own = NO_EDITION if edition == '3' else said
+            wanted = refused_with(15, 0, own) if own else refused_with(12, 3) if row == '3' else None
+            made += [paged('%s' % pairs, file, [column, row, edition], wanted) for column in ('1', 'Weight')]
+        made.append(paged('%s' % pairs, file, ['0', '0', '1'], refused_with(15, 0, NO_E)))
+        made.append(paged('%s' % pairs, file, ['list', '3', '1'], refused_with(15, 0, NO_E)))
+    for pairs, n in BAD_SCALINGS:
+        more = [keyword(name, value) for name, value in pairs]
+        file = weights_file(forms, 3, seeded('scaling', 3 * 22), names, more=more)
+        made += refused('%s' % pairs, file, 16, n)
+        made.append(paged('%s' % pairs, file, ['1', '0', '1'], refused_with(16, n)))
+    return made + refused('a factor of letters', weights_file(['3A'], 1, b'abc', more=[keyword('TSCAL1', '1')]), 16, 1)
 
 
 # forms that are E, and how many items they have; and forms that are not
@@ -1071,8 +1108,8 @@ def item_cases():
 
 
 def page_cases():
-    return (weight_cases() + shown_cases() + order_cases() + kind_cases() + by_name_cases() + row_cases()
-            + item_cases())
+    return (weight_cases() + shown_cases() + order_cases() + kind_cases() + scaling_cases() + by_name_cases()
+            + row_cases() + item_cases())
 
 
 def named():
@@ -1135,6 +1172,8 @@ def random_weights(rng):
     heap, after = [rng.randbytes(rng.choice([0, 0, rng.randrange(300)])) for _ in 'ab']
     records = table(forms, width, rows=rows, pcount=len(heap), names=names,
                     theap=rng.choice([None, rows * width + rng.randrange(len(heap) + 1)]))
+    if rng.randrange(3) == 0:
+        records += layout_cases.random_scaling(rng, forms)
     return ended(records) + area + heap + after
 
 
@@ -1473,7 +1512,7 @@ def self_check():
             numbers.update(re.findall(rb'^refused (\d+)', one.said.out))
             errors.add(one.said.err)
     assert {int(number) for number in numbers} == set(TEXTS) | {15}
-    assert {b'coentrift: refused 15 0: ' + text(of) + b'\n' for of in (NO_EDITION, NO_COLUMN, NO_E)} <= errors
+    assert {b'coentrift: refused 15 0: ' + text(of) + b'\n' for of in (NO_EDITION, NO_COLUMN, NO_E, SCALED)} <= errors
 
 
 USAGE_OF_CHECK = 'usage: tests/coentrift.py make | tests/coentrift.py check PROGRAM [--seeds A B]'

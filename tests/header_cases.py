@@ -8,7 +8,8 @@ From the repository's root:
 
 The reader below is not a copy of the Rattle code: it was written from the request's statement of a
 header, which docs/FORMAT.md, sections 2 to 6, puts in our words. It looks for each name from the
-start and matches each value by one expression.
+start and matches each value by one expression. The real numbers of TSCALn and TZEROn are read for the
+other tests alone: the program prints them as it does the values of any name.
 """
 import os
 import random
@@ -26,12 +27,19 @@ NINE = [b'XTENSION', b'BITPIX', b'NAXIS', b'NAXIS1', b'NAXIS2', b'PCOUNT', b'GCO
 
 TFORM = [b'TFORM%d' % n for n in range(1, 1000)]
 TTYPE = [b'TTYPE%d' % n for n in range(1, 1000)]
+TSCAL = [b'TSCAL%d' % n for n in range(1, 1000)]
+TZERO = [b'TZERO%d' % n for n in range(1, 1000)]
+# the names that must not stand twice
 USED = NINE + TFORM + TTYPE
-SLOTS = NINE + TFORM[:64] + TTYPE[:64]
+SLOTS = NINE + TFORM[:64] + TTYPE[:64] + TSCAL[:64] + TZERO[:64]
 
 # A value field, bytes 11 to 80: spaces, the value, then spaces only or a comment after any spaces.
 INTEGER = re.compile(rb' *([+-]?[0-9]{1,18}) *(/.*)?', re.DOTALL)
 STRING = re.compile(rb" *'((?:[^']|'')*)' *(/.*)?", re.DOTALL)
+# sign, digits before the point, the point, those behind it, exponent
+REAL = re.compile(rb' *([+-]?)([0-9]*)(\.?)([0-9]*)(?:[ED]([+-]?[0-9]+))? *(?:/.*)?', re.DOTALL)
+MOST_DIGITS = 15
+MOST_POWER = 22
 
 
 def records_of(header):
@@ -76,6 +84,29 @@ def value_of(header, k):
     return 'invalid'
 
 
+def real_of(field):
+    """The real number of a value field, or None. Python's `float` gives the nearest double, halves to even."""
+    found = REAL.fullmatch(field)
+    if not found:
+        return None
+    sign, before, point, behind, exponent = found.groups()
+    digits = before + behind
+    if not digits:
+        return None
+    power = int(exponent or b'0') - len(behind)
+    if not point and exponent is None and int(digits) == 2 ** 63:
+        pass
+    elif len(digits.lstrip(b'0')) > MOST_DIGITS or not -MOST_POWER <= power <= MOST_POWER:
+        return None
+    # 0 has no minus
+    return float(b'%s%sE%d' % (sign, digits, power)) or 0.0
+
+
+def real_at(header, k):
+    """The real number of record k, which holds a value, or None."""
+    return real_of(header[k * RECORD + 10:(k + 1) * RECORD])
+
+
 def said_of(header):
     """The lines for one header, after its length."""
     if len(header) == 0 or len(header) > 57600 or len(header) % BLOCK != 0:
@@ -84,8 +115,8 @@ def said_of(header):
     if end is None:
         return ['refused 2 0']
     names = [name_of(card) for card in records_of(header)[:end]]
-    places = {used: [k for k, name in enumerate(names) if name == used] for used in USED}
-    seconds = [found[1] for found in places.values() if len(found) > 1]
+    places = {used: [k for k, name in enumerate(names) if name == used] for used in set(USED + SLOTS)}
+    seconds = [places[used][1] for used in USED if len(places[used]) > 1]
     lines = ['refused 3 %d' % min(seconds)] if seconds else ['passed']
     for slot, used in enumerate(SLOTS):
         found = places[used]
@@ -234,6 +265,7 @@ def repeat_cases():
     form, name = keyword('TFORM1', "'1J'"), keyword('TTYPE1', "'A'")
     last_form, last_name = keyword('TFORM999', "'1J'"), keyword('TTYPE999', "'A'")
     heap = keyword('THEAP', '1')
+    factor, zero, other = keyword('TSCAL1', '0.5'), keyword('TZERO1', '32768'), keyword('TZERO64', "'x'")
     plain = [keyword('NAXIS', '9', mark) for mark in NO_VALUE]
     repeats = [
         GOOD[:9] + [two] + GOOD[9:],
@@ -263,6 +295,14 @@ def repeat_cases():
         [two] + [blank] * 34 + [three],
         [blank] * 35 + [two, three],
         [keyword(other, value) for value in '12' for other in UNUSED],
+        # TSCALn and TZEROn may stand twice
+        [factor, zero, factor],
+        [zero, zero, zero, factor],
+        [zero, two, zero, factor, three, factor],
+        [factor, keyword('TSCAL1', '2', '=='), zero, keyword('TZERO1', '2', ' ='), zero],
+        [keyword('TSCAL1', '0.5', '=='), factor, factor],
+        [other, keyword('TZERO64', ''), keyword('TZERO65', '1'), keyword('TZERO65', '1'), name, other],
+        [keyword('TSCAL999', '1')] * 2 + [form, factor, form],
     ]
     return [ended(records) for records in repeats] + [
         padded([two, END, three, END]),
@@ -278,7 +318,10 @@ NAMES = [
     'TTYPE10', 'TTYPE99', 'TTYPE100', 'TFORM 1', 'TFORM1 1', 'TFORM+1', 'TFORM-1', 'TFORM1.', 'TFORM/', 'TFORM:',
     'TFORM1/', 'TFORM1:', 'TFORM/1', 'TFORM:1', 'TFORM12/', 'TFORM12:', 'TFORM1/2', 'TFORM1:2', 'TFORM1A', 'TFORMA',
     'TFORM1a', 'TTYPE/', 'TTYPE:', 'TTYPE1/', 'TTYPE1:', 'TTYPE 1', 'TTYPEA1', 'tform3', 'TFORm3', 'ttype3',
-    'TTYPe3', 'Tform3', 'TFORN3', 'TTYPF3', 'TFOR3', 'TTYP3', 'TFORMS3', 'XTFORM3', ' TFORM3', 'TUNIT3', 'TFIELDS',
+    'TTYPe3', 'Tform3', 'TFORN3', 'TTYPF3', 'TSCAL2', 'TSCAL64', 'TSCAL65', 'TZERO2', 'TZERO64', 'TZERO65', 'TSCAL02',
+    'TSCAL0', 'TSCAL', 'TZERO', 'TZERO0', 'TZERO2/', 'TSCAL:', 'TSCALE2', 'TZER2', 'TZEROO2', 'tscal3', 'tzero3',
+    'TSCAl3', 'TZERo3', 'TSCAM3', 'TZERP3', 'TSCAK3', 'TZERN3', 'TSCAL2A', 'TZERO 2', 'TNULL3', 'TDISP3', 'TUCAL3',
+    'TFOR3', 'TTYP3', 'TFORMS3', 'XTFORM3', ' TFORM3', 'TUNIT3', 'TFIELDS',
     'TFIELD', 'TFIELDS1', 'NAXIS', 'NAXIS 1', ' NAXIS', 'naxis', 'Naxis', 'NAXIs', 'NAXIS3', 'NAXIS0', 'NAXIS1',
     'NAXIS2', 'NAXIS01', 'NAXIS11', 'NAXIS12', 'NAXIS22', 'NAXI', 'NAXISA', 'NAXIT', 'N', '', 'THEAP', 'THEAPX',
     'THEA', 'THEAP1', 'theap', 'XTENSIO', 'XTENSION', 'XTENSIOM', 'xtension', ' XTENSIO', 'BITPIX', 'BITPIX1',
@@ -390,6 +433,7 @@ def random_value(rng):
         "'%s'" % ''.join(rng.choice(["x", " ", "''", "/"]) for _ in range(rng.randrange(12))),
         "'%s'" % rng.choice(['1I', '1J', '3E', 'PE(20)', '12A']).ljust(8),
         ''.join(rng.choice("' /8x-") for _ in range(rng.randrange(1, 10))),
+        rng.choice(['0.5', '1.', '-.25', '32768', '1E-3', '2.5D+2', '9223372036854775808', '.']),
     ]
     value = ' ' * rng.choice([0, 0, 0, 1, 5, 20]) + rng.choice(kinds)
     return value + rng.choice(['', '', ' ', ' / a comment', '/c', "  /it's", ' c'])
@@ -397,7 +441,8 @@ def random_value(rng):
 
 def random_good(rng, blocks):
     """Records that pass: GOOD and some names more, once each, most of them with a slot, with other records between."""
-    names = rng.sample(TFORM[2:80] + TTYPE[2:80] + [b'THEAP'], rng.randrange(4, blocks * 36 - 16))
+    names = TFORM[2:80] + TTYPE[2:80] + TSCAL[2:80] + TZERO[2:80] + [b'THEAP']
+    names = rng.sample(names, rng.randrange(4, blocks * 36 - 16))
     more = [keyword(name, random_value(rng)) for name in names]
     room = blocks * 36 - 1 - len(GOOD) - len(more)
     for _ in range(rng.randrange(room)):

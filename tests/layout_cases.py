@@ -17,21 +17,23 @@ A case is a header, the length of a data area (zeros), how many of the header's 
 second round of name calls, and the names that are sought.
 """
 import collections
+import math
 import os
 import random
 import re
 import struct
 import sys
+from fractions import Fraction
 
 sys.dont_write_bytecode = True
 
-from header_cases import BLOCK, END, GOOD, LIMIT, NINE, USED
-from header_cases import end_of, ended, keyword, name_of, padded, record, records_of, text, value_of
+from header_cases import BLOCK, END, GOOD, LIMIT, NINE, SLOTS, TSCAL, TZERO, USED
+from header_cases import end_of, ended, keyword, name_of, padded, real_at, real_of, record, records_of, text, value_of
 
 AREA = 65536
 
 # the cases by name stay below this, so that the repository stays small; the program reads any length
-MOST_NAMED = 700000
+MOST_NAMED = 750000
 
 # ---- what docs/FORMAT.md says of a table's header ----
 
@@ -51,7 +53,11 @@ ELEMENTS = b'LXBIJKAEDCM'
 LARGEST_COUNT = 8388608
 MOST_DESCRIPTORS = 1
 
-Column = collections.namedtuple('Column', 'form count start size stretch')
+# what may be scaled; of P and Q it is the element that counts
+NUMBERS = 'BIJKED'
+
+# the scaling is None where neither keyword stands in the header, else the factor and the zero
+Column = collections.namedtuple('Column', 'form count start size stretch scaling')
 Layout = collections.namedtuple('Layout', 'rows naxis1 pcount theap columns')
 EMPTY = Layout(0, 0, 0, 0, [])
 
@@ -122,6 +128,15 @@ def used_records(header):
     return {name.decode('ascii'): k for name, k in found.items()}
 
 
+def scaling_records(header):
+    """The records of each TSCALn and TZEROn, all that hold a value before END."""
+    scaling, found = set(TSCAL + TZERO), collections.defaultdict(list)
+    for k, card in enumerate(records_of(header)[:end_of(header)]):
+        if name_of(card) in scaling:
+            found[name_of(card).decode('ascii')].append(k)
+    return found
+
+
 def check_value(name, value, k):
     """Checks 6 and 7 of a name that has a range of its own."""
     if name in ONLY and value != ONLY[name]:
@@ -155,8 +170,21 @@ def table_values(header, where):
     return values
 
 
-def column_of(header, where, n, start):
-    """Column n, counted from 1, by checks 4, 5 and 8."""
+def scaling_of(header, given, n, letters):
+    """The factor and the zero of column n by check 16, a missing one 1 and 0; None if both are missing."""
+    named = [given.get('%s%d' % (root, n), []) for root in ('TSCAL', 'TZERO')]
+    if not any(named):
+        return None
+    if letters[-1] not in NUMBERS or any(len(records) > 1 for records in named):
+        raise Refused(16, n)
+    made = tuple(real_at(header, records[0]) if records else missing for records, missing in zip(named, (1.0, 0.0)))
+    if None in made:
+        raise Refused(16, n)
+    return made
+
+
+def column_of(header, where, given, n, start):
+    """Column n, counted from 1, by checks 4, 5, 8 and 16."""
     if 'TFORM%d' % n not in where:
         raise Refused(4, n)
     form = form_of(single(bytes_at(header, string_at(header, where['TFORM%d' % n]))))
@@ -164,16 +192,17 @@ def column_of(header, where, n, start):
         raise Refused(8, n)
     letters, count, size = form
     stretch = string_at(header, where['TTYPE%d' % n]) if 'TTYPE%d' % n in where else None
-    return Column(letters, count, start, size, stretch)
+    return Column(letters, count, start, size, stretch, scaling_of(header, given, n, letters))
 
 
 def layout_of(header, area):
     """The layout, or a refusal raised."""
     where = used_records(header)
     values = table_values(header, where)
+    given = scaling_records(header)
     columns, start = [], 0
     for n in range(1, values['TFIELDS'] + 1):
-        columns.append(column_of(header, where, n, start))
+        columns.append(column_of(header, where, given, n, start))
         start += columns[-1].size
     if start != values['NAXIS1']:
         raise Refused(9, 0)
@@ -214,14 +243,20 @@ def find(layout, header, sought):
     return None
 
 
+def double_bits(of):
+    return int.from_bytes(struct.pack('>d', of), 'big')
+
+
 def said_of(case):
     """The lines for one case, after its number."""
     outcome, layout = read(case.header, case.area)
     lent = [('full', case.header), ('cut', case.header[:case.cut])]
     lines = [outcome, 'table %d columns %d rows %d bytes %d pcount %d theap' % (
         len(layout.columns), layout.rows, layout.naxis1, layout.pcount, layout.theap)]
-    for i, (form, count, start, size, stretch) in enumerate(layout.columns):
+    for i, (form, count, start, size, stretch, scaling) in enumerate(layout.columns):
         noted = 'missing' if stretch is None else 'stretch %d %d' % stretch
+        if scaling is not None:
+            noted += ' factor %d zero %d' % tuple(double_bits(of) for of in scaling)
         lines.append('column %d %s %d at %d bytes %d %s' % (i, form, count, start, size, noted))
     for i in range(len(layout.columns) + 1):
         for word, header in lent:
@@ -751,11 +786,93 @@ def either_case_cases():
     ]
 
 
+# real numbers as TSCALn and TZEROn hold them
+REALS = [
+    '1', '+1', '-1', '1.', '1.0', '01', '.5', '-.5', '+.1E+1', '0.1', '2.5', '0', '-0', '-0.0', '+0', '.0', '0.',
+    '0E22', '-0D-22', '0.0E23', '0.00E-20',
+    # the zeros of whole numbers, 32768 in some other forms
+    '32768', '-128', '2147483648', '9223372036854775808', '-9223372036854775808', '+0009223372036854775808 / K',
+    '   9223372036854775808/', '3.2768E4', '3.2768D+04', '327680000E-4', '.000032768E9', '32768.0000000000', '32768E0',
+    '32768/', '32768 /E5', ' ' * 65 + '32768', ' ' * 64 + '32768.', '32768' + ' ' * 64 + '/', '-32768', '32768.5',
+    # 15 digits, powers up to 22
+    '999999999999999', '-123456789012345', '123456789.012345D5', '.999999999999999', '0.0000000199999999999999E1',
+    '1E22', '1D-22', '1.E-22 / small', '1.0E+23', '0.1E-21', '0.0000000000000000000001', '999999999999999E22',
+    '999999999999999E-22', '-999999999999999D+22', '000000000000000000.001E0000000000000003', '1E' + '0' * 67 + '1',
+    # halfway between two doubles: an odd number of 54 bits times a power of two
+    '5E22', '-7E22', '27E21', '29E21', '123E20', '680718877365053E2', '.395814925081869E17', '1795235D14',
+]
+
+# other values
+NO_REALS = [
+    '1E23', '1E-23', '0E23', '.1E-22', '1.0E24', '1234567890123456', '0.1234567890123456', '100000000000000.0',
+    '9223372036854775808.', '9223372036854775808E0', '9223372036854775807', '922337203685477580.8E1', '.', '+', '-.',
+    '', '/', 'E5', '.E5', '1E', '1E+', '1E /', '1e5', '1d5', '3.3e2', '1F5', '1E5.', '1E5.0', '1E5E5', '1..', '1.2.3',
+    '+-1', '--1', '+ 1', '1 2', '1 E5', '1E 5', '1. 5', '1x', '1 x', '1_0', '1,5', "'1'", 'T', 'nan', 'inf', '0x1',
+    '1E+-5', '1E' + '9' * 60, '1E-' + '9' * 30, '9' * 70, '1' + '0' * 69, '(1,0)', b'1\t', b'1\0', b'\t1', b'\xb1',
+    '1E99999999999999999999', '1E18446744073709551616', '1E-18446744073709551616',
+]
+
+EVERY_NUMBER = ['1B', '1I', '1J', '1K', '1E', '1D'] + [kind + letter for kind in 'PQ' for letter in NUMBERS] + ['0PK']
+
+
+def scaled_table(forms, *pairs, naxis1=None, theap=None):
+    """A table with these records behind the others: a name, its value, a name, its value."""
+    if naxis1 is None:
+        naxis1 = sum(form_of(text(form))[2] for form in forms)
+    return table(forms, naxis1, theap=theap) + [keyword(name, of) for name, of in zip(pairs[::2], pairs[1::2])]
+
+
+def scaling_cases():
+    """TSCALn and TZEROn, and refusal 16."""
+    many = [keyword('%s%d' % (root, n + 1), REALS[(2 * n + k) % len(REALS)]) for n in range(64)
+            for k, root in enumerate(('TSCAL', 'TZERO'))]
+    each_form = [(form, n) for n, form in enumerate(EVERY_NUMBER, 1)]
+    both = scaled_table(EVERY_NUMBER, *[of for _, n in each_form for of in ('TZERO%d' % n, '-%d.5' % n, 'TSCAL%d' % n,
+                                                                           '%dE-1' % n)])
+    some_of = scaled_table(EVERY_NUMBER, *[of for form, n in each_form if n % 3
+                                           for of in (('TSCAL%d' if n % 3 == 1 else 'TZERO%d') % n, '0.%d' % n)])
+    two = ['1I', '1J']
+    made = [
+        case('the real numbers, two at each of 64 columns', 'accepted', table(['1B'] * 64, 64) + many, area=64),
+        case('each type with both', 'accepted', both, area=200),
+        case('each type, one or none', 'accepted', some_of, area=200),
+        case('a record of the name without a value, before and behind; n above TFIELDS; behind END', 'accepted', padded(
+            scaled_table(two, 'TZERO2', '8') + [keyword('TZERO2', '9', '=='), keyword('TSCAL1', '9', ' =')]
+            + [keyword('TSCAL3', 'x'), keyword('TSCAL3', 'x'), keyword('TZERO999', '1'), keyword('TZERO999', '1')]
+            + [keyword('TSCAL01', '1')] * 2 + [keyword('TZERO0', '1'), END, keyword('TZERO2', '9')])),
+    ]
+    made += [case('16: %s with %s' % (form, root), 'refused 16 2', scaled_table(['1I', form], root + '2', '1'), area=99)
+             for form, root in (('1L', 'TZERO'), ('1X', 'TSCAL'), ('1A', 'TZERO'), ('1C', 'TSCAL'), ('1M', 'TZERO'),
+                                ('PA', 'TSCAL'), ('0QX', 'TZERO'), ('QM', 'TSCAL'))]
+    made += [
+        case('16: TSCAL2 twice, the same', 'refused 16 2', scaled_table(two, 'TSCAL2', '2', 'TSCAL2', '2')),
+        case('16: TZERO1 twice, the second unreadable', 'refused 16 1',
+             scaled_table(two, 'TZERO1', '2', 'TZERO1', "'")),
+        case('16: TSCAL1 good, TZERO1 twice', 'refused 16 1',
+             scaled_table(two, 'TZERO1', '1', 'TSCAL1', '2', 'TZERO1', '1')),
+        case('16: TZERO1 good, TSCAL1 bad', 'refused 16 1', scaled_table(two, 'TZERO1', '1', 'TSCAL1', '1e5')),
+        case('16: TSCAL1 good, TZERO1 bad', 'refused 16 1', scaled_table(two, 'TZERO1', '1E23', 'TSCAL1', '1E22')),
+        case('16: column 64 alone', 'refused 16 64', scaled_table(['1B'] * 64, 'TZERO64', '1234567890123456'), area=64),
+        case('16 of 1 before 16 of 2, by n and not by record', 'refused 16 1',
+             scaled_table(two, 'TSCAL2', '', 'TZERO1', '')),
+        case('3 before 16', 'refused 3 12', scaled_table(two, 'TZERO1', 'x', 'TZERO1', 'x', 'NAXIS', '2')),
+        case('6 of THEAP before 16', 'refused 6 8', scaled_table(two, 'TZERO1', 'x', theap=99)),
+        case('5 of TTYPE1 before 16', 'refused 5 10', scaled_table(two, 'TTYPE1', '1', 'TZERO1', 'x')),
+        case('8 of TFORM1 before 16', 'refused 8 1', scaled_table(['3Z', '1J'], 'TZERO1', 'x', naxis1=6)),
+        case('16 of 1 before 4 of TFORM2', 'refused 16 1', without('TFORM2', of=scaled_table(two, 'TSCAL1', 'x'))),
+        case('16 of 1 before 5 of TTYPE2', 'refused 16 1', scaled_table(two, 'TTYPE2', '1', 'TSCAL1', 'x')),
+        case('16 before 9', 'refused 16 2', scaled_table(two, 'TZERO2', '0E23', naxis1=7)),
+        case('16 before 10', 'refused 16 2', scaled_table(two, 'TZERO2', '.'), area=5),
+        case('9 with good numbers', 'refused 9 0', scaled_table(two, 'TZERO2', '1', naxis1=7)),
+    ]
+    return made
+
+
 def named():
     """All of them."""
     return (example_cases() + whole_cases() + missing_cases() + unread_cases() + wrong_cases() + heap_cases()
             + sum_cases() + order_cases() + form_cases() + empty_field_cases() + name_cases() + apart_cases()
-            + either_case_cases() + counted_form_cases())
+            + either_case_cases() + counted_form_cases() + scaling_cases())
 
 
 # ---- random cases ----
@@ -842,6 +959,53 @@ def random_name(rng, others):
     ])
 
 
+def real_text(rng):
+    """A text by the grammar of a real number, with or without the limits; most are within them."""
+    digits = '%d' % rng.randrange(10 ** rng.choice([1, 1, 2, 3, 5, 8, 14, 15, 15, 16, 17]))
+    digits = '0' * rng.choice([0, 0, 0, 1, 2, 12]) + digits + '0' * rng.choice([0, 0, 0, 1, 3])
+    if rng.randrange(2):
+        at = rng.randrange(len(digits) + 1)
+        digits = digits[:at] + '.' + digits[at:]
+    made = rng.choice(['', '', '', '+', '-', '-']) + digits
+    if rng.randrange(3):
+        behind = len(digits.partition('.')[2])
+        power = rng.choice([0, 1, rng.randrange(-22, 23), rng.randrange(-9, 10), 22, -22, 23, -23])
+        exponent = power + behind * rng.randrange(2)
+        made += rng.choice('EED') + rng.choice(['-'] if exponent < 0 else ['', '+']) + '0' * rng.choice([0, 0, 1, 3])
+        made += '%d' % abs(exponent)
+    return made
+
+
+def nearly_real(rng, of):
+    """The text with one byte put in, left out or changed."""
+    of, at = text(of), rng.randrange(len(of) + 1)
+    new = bytes([rng.choice(b'+-.EDed0123456789 /\'xT\t\0' if rng.randrange(9) else range(256))])
+    return of[:at] + rng.choice([new, b'']) + of[at + rng.randrange(2):]
+
+
+def real_value(rng):
+    """A good one, in its place in the record."""
+    made = None
+    while made is None:
+        made = b' ' * rng.choice([0, 0, 1, 8]) + text(rng.choice([real_text(rng), rng.choice(REALS)])) + after(rng)
+        if len(made) > 70 or real_of(made) is None:
+            made = None
+    return made
+
+
+def random_scaling(rng, forms):
+    """TSCALn and TZEROn, most at columns that may have them, and now and then one that is not looked at."""
+    made = []
+    for n, form in enumerate(forms, 1):
+        if form_of(text(form))[0][-1] in NUMBERS and rng.randrange(3) == 0:
+            roots = rng.choice([['TSCAL'], ['TZERO'], ['TSCAL', 'TZERO']])
+            made += [keyword('%s%d' % (root, n), real_value(rng)) for root in roots]
+    if rng.randrange(12) == 0:
+        beyond = '%s%d' % (rng.choice(['TSCAL', 'TZERO']), len(forms) + rng.choice([1, 2, 50, 900]))
+        made += [keyword(beyond, rng.choice(UNREAD + ['1.5']))] * rng.choice([1, 1, 2])
+    return made
+
+
 def random_records(rng):
     """The records of a sound table without END, and the bytes that its area must have."""
     forms = [random_form(rng) for _ in range(rng.choice([0, 1, 2, 2, 3, 3] + list(range(1, 13))))]
@@ -868,20 +1032,22 @@ def random_records(rng):
         beyond = '%s%d' % (rng.choice(['TFORM', 'TTYPE']), len(forms) + rng.choice([1, 2, 50, 900]))
         if not any(has(card, beyond) for card in columns):
             columns.append(keyword(beyond, rng.choice(UNREAD + ['7', "'1I'", "'A'"])))
+    if rng.randrange(3) == 0:
+        columns += random_scaling(rng, forms)
     order = rng.randrange(4)
     if order == 1:
         rng.shuffle(columns)
     made += columns
     if order == 2:
         rng.shuffle(made)
-    room = 35 - len(made) if len(made) < 35 and rng.randrange(20) else 71 - len(made)
+    room = max(0, 35 - len(made) if len(made) < 35 and rng.randrange(20) else 71 - len(made))
     for _ in range(rng.randrange(min(room, 14) + 1)):
         made.insert(rng.randrange(len(made) + 1), record(rng.choice(FILL)))
     return made, main + pcount
 
 
 def used_places(records):
-    return [k for k, card in enumerate(records) if name_of(card) in USED]
+    return [k for k, card in enumerate(records) if name_of(card) in USED + TSCAL + TZERO]
 
 
 def put(records, name, value):
@@ -990,6 +1156,20 @@ def fault_swap(rng, records):
         records[one], records[other] = first[:10] + second[10:], second[:10] + first[10:]
 
 
+def fault_scaling(rng, records):
+    """TSCALn or TZEROn of any column, most of them bad or a second one; or another value at one that is there."""
+    name = '%s%d' % (rng.choice(['TSCAL', 'TZERO']), 1 + rng.randrange(min(max(1, number_at(records, 'TFIELDS')), 64)))
+    value = rng.choice([nearly_real(rng, real_text(rng)), rng.choice(NO_REALS), real_text(rng), real_value(rng)])[:70]
+    places = [k for k, card in enumerate(records) if name_of(card) in TSCAL + TZERO]
+    if places and rng.randrange(2):
+        k = rng.choice(places)
+        records[k] = keyword(name_of(records[k]), value)
+    elif places and rng.randrange(2):
+        records.insert(rng.randrange(len(records) + 1), rng.choice([records[rng.choice(places)], keyword(name, value)]))
+    else:
+        records.insert(rng.randrange(len(records) + 1), keyword(name, value))
+
+
 def fault_end(rng, records):
     """END early, or a record that is nearly END."""
     new = rng.choice([END, record('END.'), record('end'), b'END'.ljust(79) + b'\0'])
@@ -999,7 +1179,7 @@ def fault_end(rng, records):
 FAULTS = [
     fault_missing, fault_missing, fault_unread, fault_unread, fault_size, fault_limit, fault_limit, fault_only,
     fault_near, fault_near, fault_heap, fault_form, fault_form, fault_form, fault_twice, fault_byte, fault_byte,
-    fault_swap, fault_end,
+    fault_swap, fault_end, fault_scaling, fault_scaling, fault_scaling,
 ]
 
 
@@ -1078,7 +1258,8 @@ def tell(cases, size):
     """The counts, to standard error."""
     outcomes = [read(one.header, one.area)[0].split() for one in cases]
     counts = collections.Counter('accepted' if words[0] == 'accepted' else int(words[1]) for words in outcomes)
-    told = ['accepted %d' % counts['accepted']] + ['%d: %d' % (number, counts[number]) for number in range(1, 11)]
+    numbers = [*range(1, 11), 16]
+    told = ['accepted %d' % counts['accepted']] + ['%d: %d' % (number, counts[number]) for number in numbers]
     print('%d cases, %d bytes; %s' % (len(cases), size, ', '.join(told)), file=sys.stderr)
 
 
@@ -1629,6 +1810,16 @@ find 41 to 44 none
 ''',
 }
 
+# the bits of 1 are 3ff0000000000000 in hex, those of 8 are 4020000000000000
+WORKED['a record of the name without a value, before and behind; n above TFIELDS; behind END'] = '''
+accepted
+table 2 columns 1 rows 6 bytes 0 pcount 6 theap
+column 0 I 1 at 0 bytes 2 missing
+column 1 J 1 at 2 bytes 4 missing factor 4607182418800017408 zero 4620693217682128896
+name 0 to 2 empty
+find 0 to 2 none
+'''
+
 # the columns of some more cases, whose names are long or many
 WORKED_COLUMNS = {
     'names up to the end of the record': {
@@ -1702,8 +1893,28 @@ def spelled(worked):
     return lines
 
 
+def is_nearest(exact, number):
+    """Whether no double is nearer to a fraction, and of two that are as near it is the even one."""
+    off = abs(Fraction(number) - exact)
+    for other in (math.nextafter(number, math.inf), math.nextafter(number, -math.inf)):
+        other_off = abs(Fraction(other) - exact)
+        if other_off < off or other_off == off and double_bits(number) % 2:
+            return False
+    return True
+
+
+def check_reals():
+    """The real numbers above are read as the doubles nearest to the fractions, and the others are not read."""
+    for written in REALS:
+        number, exact = real_of(text(written)), Fraction(written.partition('/')[0].strip().replace('D', 'E'))
+        assert is_nearest(exact, number) and double_bits(number) != double_bits(-0.0), written
+    for written in NO_REALS:
+        assert real_of(text(written)) is None, written
+
+
 def self_check():
     """Every case by name comes out as its line says, and the ones above are printed as worked out."""
+    check_reals()
     cases = {one.why: one for one in named()}
     assert len(cases) == len(named())
     for why, one in cases.items():

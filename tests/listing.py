@@ -36,8 +36,8 @@ sys.dont_write_bytecode = True
 from header_cases import BLOCK, END, GOOD, RECORD
 from header_cases import end_of, ended, header_length, keyword, padded, record, records_of, text
 from layout_cases import Refused, changed, inserted, layout_of, noted_name, quoted, table, without
-from table_cases import READ, ROW, SEEK, Bad, Walk, be, case as table_case, choice_of, item_width, p, q
-from table_cases import random_case, row_entries
+from table_cases import DOUBLES, FLOATS, READ, ROW, SEEK, SHIFTED, STORED, WHOLE_FORMS, WHOLE_ROW, ZEROS, Bad, Walk, be
+from table_cases import case as table_case, choice_of, item_width, p, q, random_case, row_entries, scaled
 
 MOST = 65536
 LARGEST = 2 ** 64 - 1
@@ -139,14 +139,18 @@ def setting_of(line):
 
 
 def step_of(line):
-    """('cell', 0), ('row', cells of the list) or ('seek', row); None for any other line."""
-    if line == b'cell':
-        return 'cell', 0
+    """('cell', 0), ('row', cells of the list) or ('seek', row), and whether it is a scaled read; None for any other
+    line."""
     words = line.split(b' ')
+    is_scaled = words[0] in (b'cell', b'row') and words[-1] == b'scaled'
+    if is_scaled:
+        words.pop()
+    if words == [b'cell']:
+        return 'cell', 0, is_scaled
     number = number_of(words[1]) if len(words) == 2 else None
     if number is None or words[0] not in (b'row', b'seek') or words[0] == b'row' and number > MOST_CELLS:
         return None
-    return words[0].decode('ascii'), number
+    return words[0].decode('ascii'), number, is_scaled
 
 
 class Kept(Walk):
@@ -170,11 +174,12 @@ class Kept(Walk):
 
 
 def answer_lines(walk, area, step):
-    word, number = step
+    word, number, is_scaled = step
+    shown = (lambda cell: cell_line(scaled(walk.layout, cell))) if is_scaled else cell_line
     try:
         if word == 'cell':
             cell = walk.next(area)
-            return [b'end' if cell is None else cell_line(cell)]
+            return [b'end' if cell is None else shown(cell)]
         if word == 'seek':
             walk.seek(area, number)
             return [b'seek %d' % number]
@@ -182,7 +187,7 @@ def answer_lines(walk, area, step):
         handed = walk.next_row(area, cells)
         if handed is None:
             return [b'end']
-        return [b'row %d' % handed] + [cell_line(cell) for cell in cells[:handed]]
+        return [b'row %d' % handed] + [shown(cell) for cell in cells[:handed]]
     except Refused as refusal:
         return [refused_line(refusal)]
 
@@ -488,9 +493,10 @@ def both(why, table, steps, said):
     return case(why, table, steps, said, said)
 
 
-def small(forms, rows, heap=b'', names=(), gap=None):
-    """A file of a table: rows of bytes (or a number of rows of no bytes), what follows them, names."""
-    made = table_case('', None, forms, rows, [], heap=heap, gap=gap)
+def small(forms, rows, heap=b'', names=(), gap=None, scales=()):
+    """A file of a table: rows of bytes (or a number of rows of no bytes), what follows them, names, and the values of
+    TSCALn and TZEROn by their names."""
+    made = table_case('', None, forms, rows, [], heap=heap, gap=gap, scales=scales)
     records = [keyword('TTYPE%d' % n, quoted(name)) for n, name in enumerate(names, 1) if name is not None]
     cards = records_of(made.header)[:end_of(made.header)]
     return ended(cards + records) + made.area
@@ -742,6 +748,155 @@ def above_one_cases():
     return made
 
 
+def cells_told(row, column, values):
+    return ''.join('cell %d %d %d %s\n' % (row, column, idx, value) for idx, value in enumerate(values.split()))
+
+
+def three_each(texts):
+    """The texts of four columns, three in each."""
+    words = texts.split()
+    return [' '.join(words[at:at + 3]) for at in range(0, 12, 3)]
+
+
+def one_row(why, settings, columns, **scales):
+    """A table of one row. Each column is its form, the bytes of the field and the texts of its scaled values. They are
+    read by a row read and then by cell reads."""
+    forms, fields, texts = zip(*columns)
+    lines = [line for c, of in enumerate(texts) for line in cells_told(0, c, of).splitlines(True)]
+    count = len(lines)
+    said = 'row %d\n%sat 1 0 %d\nseek 0\nat 0 0 %d\n' % (count, ''.join(lines), count, count)
+    for passed, line in enumerate(lines, 1):
+        place = '0 %d' % passed if passed < count else '1 0'
+        said += '%sat %s %d\n' % (line, place, count + passed)
+    steps = settings + b'row %d scaled\nseek 0\n' % count + b'cell scaled\n' * (count + 1)
+    return case('scaled: ' + why, small(forms, [b''.join(fields)], scales=scales), steps, None,
+                said + 'end\nat 1 0 %d\n' % (2 * count))
+
+
+# the doubles of 0, 1, -1 and 2 to the 63rd, and the answer of every NaN
+NONE, ONE, MINUS, K_ZERO, NAN = ('0000000000000000', '3ff0000000000000', 'bff0000000000000', '43e0000000000000',
+                                 '7ff8000000000000')
+
+
+WHOLE_FIELDS = [WHOLE_ROW[:3], WHOLE_ROW[3:9], WHOLE_ROW[9:21], WHOLE_ROW[21:]]
+
+
+def scaled_value_cases():
+    """What a scaled read makes of stored numbers."""
+    shifted = list(zip(WHOLE_FORMS, WHOLE_FIELDS, three_each(SHIFTED)))
+    # 128 is 4060000000000000 and 255 406fe00000000000; 32768 is 40e0000000000000
+    plain = list(zip(WHOLE_FORMS, WHOLE_FIELDS, [
+        NONE + ' 4060000000000000 406fe00000000000', 'c0e0000000000000 ' + NONE + ' 40dfffc000000000',
+        'c1e0000000000000 ' + MINUS + ' 41dfffffffc00000', 'c3e0000000000000 ' + MINUS + ' ' + K_ZERO]))
+    special = ' '.join(['7ff0000000000000 fff0000000000000', NONE] + [NAN] * 8)
+    floats = [('11E', be(4, *FLOATS[:11]), special), ('11D', be(8, *DOUBLES[:11]), special),
+              # the smallest above zero, 1.5 and -0.0
+              ('3E', be(4, 1, 0x3FC00000, 2 ** 31), '36a0000000000000 3ff8000000000000 ' + NONE),
+              ('2D', be(8, 1, 0x8000000000000001), '0000000000000001 8000000000000001')]
+    given = {'%s%d' % (root, n): of for n in (1, 2, 3, 4) for root, of in (('TSCAL', '1'), ('TZERO', '-0'))}
+    # 32768 with the factors 2 and -1; that of B, E and J; 128 of B; 2 to the 31st of I; -128 of D; less than 0 of K
+    near = [('1I', be(2, -2 ** 15), 'c0e0000000000000'), ('1J', be(4, 0), '40e0000000000000'),
+            ('1B', b'\0', '4060000000000000'), ('1E', be(4, 0), '40e0000000000000'),
+            ('1I', be(2, 0), '41e0000000000000'), ('1K', be(8, 0), 'c3e0000000000000'),
+            ('1D', be(8, 0), 'c060000000000000'), ('1I', be(2, 0), '40e0000000000000')]
+    return [
+        one_row('exact whole numbers', b'', shifted, **ZEROS),
+        one_row('exact whole numbers, the factor 1 in some forms', b'heap off\n', shifted, TSCAL1='1.', TSCAL2='+1',
+                TSCAL3='10E-1', TSCAL4='.1D1', **ZEROS),
+        one_row('no keywords', b'choose all\n', plain + floats),
+        one_row('the factor 1 and the zero 0 of whole numbers', b'', plain, **given),
+        one_row('near the zeros of whole numbers', b'', near, TSCAL1='2', TZERO1='32768', TZERO2='32768', TZERO3='128',
+                TZERO4='32768', TZERO5='2147483648', TZERO6='-9223372036854775808', TZERO7='-128', TSCAL8='-1',
+                TZERO8='32768'),
+        # 2 to the 53rd and 1 becomes 2 to the 53rd, and with 3 it becomes that with 4
+        one_row('whole numbers between doubles', b'', [
+            ('4K', be(8, 2 ** 53 + 1, 2 ** 53 + 3, 2 ** 63 - 1, -2 ** 53 - 1),
+             '4340000000000000 4340000000000002 43e0000000000000 c340000000000000')], TSCAL1='1'),
+        # rounded, 0.1 times 3 lies above 0.3 by 2 to the -54th; the exact product by half of that
+        one_row('the product is rounded before the sum', b'', [('1B', b'\3', '3c90000000000000')], TSCAL1='0.1',
+                TZERO1='-0.3'),
+        # the largest double times 10 to the 22nd; the infinities times 0
+        one_row('infinities that come and go', b'', [
+            ('1D', be(8, DOUBLES[14]), '7ff0000000000000'), ('1D', be(8, DOUBLES[14] + 2 ** 63), 'fff0000000000000'),
+            ('2E', be(4, FLOATS[0], FLOATS[1]), NAN + ' ' + NAN)], TSCAL1='1E22', TSCAL2='1E22', TSCAL3='0'),
+    ]
+
+
+def scaled_step_cases():
+    """Scaled reads among other steps."""
+    stored = [cells_told(0, c, of) for c, of in enumerate(three_each(STORED))]
+    whole_file = small(WHOLE_FORMS, [WHOLE_ROW], scales=ZEROS)
+    # 10 is 4024000000000000, 7.5 401e000000000000, -0.5 bfe0000000000000, 9.5 4023000000000000
+    ten, less, seven, half, nine = ('4024000000000000', 'c024000000000000', '401e000000000000', 'bfe0000000000000',
+                                    '4023000000000000')
+    mixed = small(['1PI', '1B', '1QE', '2A', '4L', '1C', '9X'],
+                  [p(2, 0) + b'\x07' + q(1, 4) + b'abTF\0x' + be(4, 0x3F800000, 0x80000000) + b'\xa5\x80',
+                   p(1, 2) + b'\x09' + q(2, 4) + b'cdTTTT' + bytes(10)], heap=be(2, 5, -5) + be(4, 0x3FC00000),
+                  scales={'TSCAL1': '2', 'TZERO2': '0.5', 'TSCAL3': '-1', 'TZERO3': '1'})
+    others = ('cell 0 3 0 97\ncell 0 3 1 98\ncell 0 4 0 T\ncell 0 4 1 F\ncell 0 4 2 U\ncell 0 4 3 ?120\n'
+              'cell 0 5 0 3f800000 80000000\ncell 0 6 0 165\ncell 0 6 1 128\n')
+    followed = ('cell 0 0 0 %s\ncell 0 0 1 %s\ncell 0 1 0 %s\ncell 0 2 0 %s\n' % (ten, less, seven, half)) + others
+    return [
+        case('scaled and plain steps of one row', whole_file,
+             b'cell scaled\ncell\ncell scaled\nrow 9\nseek 0\nrow 12\n', None,
+             'cell 0 0 0 -128\nat 0 1 1\ncell 0 0 1 128\nat 0 2 2\ncell 0 0 2 127\nat 0 3 3\nrow 9\n'
+             + ''.join(stored[1:]) + 'at 1 0 12\nseek 0\nat 0 0 12\nrow 12\n' + ''.join(stored) + 'at 1 0 24\n'),
+        case('`cells` shows stored values', whole_file, b'', 'table 4 columns 1 rows 45 bytes\ncolumn 0 B 3 at 0 -\n'
+             'column 1 I 3 at 3 -\ncolumn 2 J 3 at 9 -\ncolumn 3 K 3 at 21 -\n' + ''.join(stored) + 'end 12\n', ''),
+        case('scaled: the line in other forms', GOOD_FILE, b'row 0002 scaled\nseek 0\ncell scaled\nrow 00 scaled\n'
+             b'row 512 scaled\nrow 0 scaled\ncell scaled', EX,
+             'row 2\ncell 0 0 0 %s\ncell 0 1 0 40bf400000000000\nat 1 0 2\nseek 0\nat 0 0 2\ncell 0 0 0 %s\nat 0 1 3\n'
+             'refused 14 1\nat 0 1 3\nrow 1\ncell 0 1 0 40bf400000000000\nat 1 0 4\nrefused 14 2\nat 1 0 4\n'
+             'cell 1 0 0 %s\nat 1 1 5\n' % (ONE, ONE, MINUS)),
+        case('scaled: zeros in front of the N of a scaled row', GOOD_FILE, b'row ' + b'0' * 6000 + b'2 scaled\n', EX,
+             'row 2\ncell 0 0 0 %s\ncell 0 1 0 40bf400000000000\nat 1 0 2\n' % ONE),
+        # 9,361 lines of 7 bytes leave 9 of the 65,536; 5 more in front leave 4
+        case('scaled: cut inside the word', GOOD_FILE, b'seek 0\n' * 9361 + b'cell scaled\n', EX,
+             'seek 0\nat 0 0 0\n' * 9361 + 'bad line 9362\n'),
+        case('scaled: cut before the word, so that it is a plain step', GOOD_FILE,
+             b'seek 000000\n' + b'seek 0\n' * 9360 + b'cell scaled\n', EX,
+             'seek 0\nat 0 0 0\n' * 9361 + 'cell 0 0 0 1\nat 0 1 1\n'),
+        case('scaled: arrays, other types, 13 and 14', mixed,
+             b'row 12 scaled\nrow 13 scaled\n' + b'cell scaled\n' * 3 + b'row 512 scaled\nrow 0 scaled\n', None,
+             'refused 14 13\nat 0 0 0\nrow 13\n' + followed + 'at 1 0 13\ncell 1 0 0 %s\nat 1 1 14\ncell 1 1 0 %s\n'
+             'at 1 2 15\nrefused 13 2\nat 1 2 15\nrefused 13 2\nat 1 2 15\nrefused 13 2\nat 1 2 15\n' % (less, nine)),
+        case('scaled: the heap off', mixed, b'heap off\nrow 12 scaled\nchoose all\n', None,
+             'row 12\ncell 0 0 0 2 0\ncell 0 1 0 %s\ncell 0 2 0 1 4\n' % seven + others + 'at 1 0 12\nbad line 3\n'),
+        case('scaled: a choice', mixed, b'choose 2 1\nrow 2 scaled\ncell\ncell scaled\n', None,
+             'row 2\ncell 0 1 0 %s\ncell 0 2 0 %s\nat 1 0 2\ncell 1 1 0 9\nat 1 1 3\nrefused 13 2\nat 1 1 3\n' % (
+                 seven, half)),
+        case('scaled: past the end', GOOD_FILE, b'seek 1\nrow 2 scaled\ncell scaled\nrow 0 scaled\nseek 2\n', EX,
+             'seek 1\nat 1 0 0\nrow 2\ncell 1 0 0 %s\ncell 1 1 0 4045000000000000\nat 2 0 2\nend\nat 2 0 2\nend\n'
+             'at 2 0 2\nrefused 12 2\nat 2 0 2\n' % MINUS),
+    ]
+
+
+def scaling_cases():
+    """Refusal 16."""
+    made = []
+    for column, form in ((1, 'L'), (2, 'X'), (3, 'A'), (4, 'C'), (5, 'M'), (6, 'PA'), (7, '0QC')):
+        made.append(both('16: %s with TZERO%d' % (form, column), small(
+            ['1B'] * (column - 1) + [form] + ['1I'], [], scales={'TZERO%d' % column: '1'}), b'cell scaled\n',
+            'refused 16 %d\n' % column))
+    for written in ('1e5', '', '.', "'1'", '1E23', '0E23', '1234567890123456', '9223372036854775808.', '1 1', '1E',
+                    'T'):
+        made.append(both('16: TSCAL2 of %r' % written, small(['1I', '1J'], [], scales={'TSCAL2': written}),
+                         b'bad\n', 'refused 16 2\n'))
+    two = records_of(ended(table(['1I', '1J'], 6)))[:10]
+    again = [keyword('TZERO2', '32768')] * 2
+    return made + [
+        both('16: TZERO2 twice', ended(two + again) + bytes(6), b'', 'refused 16 2\n'),
+        both('3 before 16: TZERO2 and TTYPE2 twice', ended(two + again + [keyword('TTYPE2', '1')] * 2) + bytes(6), b'',
+             'refused 3 13\n'),
+        both('5 of TTYPE2 before 16', ended(two + again + [keyword('TTYPE2', '1')]) + bytes(6), b'', 'refused 5 12\n'),
+        both('16 before 9 and 10', ended(changed('NAXIS1', '7', of=two) + again), b'', 'refused 16 2\n'),
+        case('TSCAL3 and TZERO9 twice in a table of two columns', ended(
+            two + [keyword('TSCAL3', 'x'), keyword('TZERO9', '')] * 2) + be(2, 1) + be(4, 2), b'cell scaled\n',
+            'table 2 columns 1 rows 6 bytes\ncolumn 0 I 1 at 0 -\ncolumn 1 J 1 at 2 -\ncell 0 0 0 1\ncell 0 1 0 2\n'
+            'end 2\n', 'cell 0 0 0 %s\nat 0 1 1\n' % ONE),
+    ]
+
+
 # Lines that are bad wherever they stand. A carriage return, a tab and byte 0 are bytes of their line.
 BAD_LINES = [
     b'', b' ', b'x', b'Cell', b'CELL', b'cel', b'cells', b'cell ', b' cell', b'cell 1', b'cell\r', b'\rcell', b'cell\t',
@@ -759,6 +914,15 @@ BAD_LINES = [
     b'choose all 1', b'choose 1 all', b'choose ALL', b'Choose all', b'choose -1', b'choose 1,2', b'choose 1\r',
     b'choose 18446744073709551616', b'choose 0 18446744073709551616', b'choose 0 x', b'choose\t0', b' choose 0',
     b'chooseall', b'choose on', b'choose none', b'choose 0 1 2 3 4 5 6 7 8 9 ',
+    b'scaled', b'cell  scaled', b'cell scaled ', b' cell scaled', b'cell scaled scaled', b'scaled cell', b'cell plain',
+    b'cell Scaled', b'cell SCALED', b'cell scale', b'cell scaledx', b'cell xscaled', b'cellscaled', b'cell\tscaled',
+    b'cell scaled\r', b'cell scaled\0', b'cell scaled 1', b'cell 1 scaled', b'cell scaled\xa0',
+    b'row scaled', b'row scaled 3', b'scaled row 3', b'row  scaled', b'row 3  scaled', b'row 3 scaled ',
+    b'row  3 scaled', b'row 3 scaled scaled', b'row 3 scaledx', b'row 3scaled', b'row 3 Scaled', b'row 3 plain',
+    b'row 3 scaled 4', b'row 3 4 scaled', b'row x scaled', b'row -3 scaled', b'row 513 scaled', b'row 0513 scaled', b'row3 scaled',
+    b'row 18446744073709551616 scaled', b'row 18446744073709551617 scaled', b'row 3\tscaled', b'row 3 scaled\r',
+    b'seek scaled', b'seek 0 scaled', b'seek scaled 0', b'choose 0 scaled', b'choose all scaled', b'choose scaled',
+    b'heap on scaled', b'heap scaled', b'scaled heap on', b'row ' + b'0' * 90 + b'513 scaled',
     b'heap', b'heap ', b'heap on ', b' heap on', b'heap  on', b'heap On', b'heap ON', b'Heap on', b'heap 1', b'heap of',
     b'heap offf', b'heap on off', b'heap on\r', b'heap\ton', b'heapon', b'heap all',
 ]
@@ -870,7 +1034,7 @@ def step_cases():
 
 def named():
     return (file_cases() + refusal_cases() + table_cases() + empty_field_cases() + above_one_cases() + line_cases()
-            + step_cases())
+            + step_cases() + scaled_value_cases() + scaled_step_cases() + scaling_cases())
 
 
 # ---- random cases ----
@@ -900,14 +1064,14 @@ def random_cards(rng, header):
 
 VALUES = ['', '0', '-1', '1', '2', '3', '8', '65', '999', '1000', '1048577', '16777217', '2147483648', '9' * 19, "'8'",
           "'BINTABLE'", "'IMAGE'", "'3Z'", "' 1E'", "'1I'", "'PZ'", "'8388609A'", "'it's'", 'T', "'0PE'", "'0QX'",
-          "'2PE'", "'2QD'", "'1PB'"]
+          "'2PE'", "'2QD'", "'1PB'", '0.5', '-1.5E3', '1e3', '1E23', '32768', '9223372036854775808', '1234567890123456']
 
 
 def spoiled(rng, cards):
     """The records with one fault or more, most of them refused."""
     cards = list(cards)
     for _ in range(rng.choice([1, 1, 2])):
-        at, kind = rng.randrange(len(cards)), rng.randrange(5)
+        at, kind = rng.randrange(len(cards)), rng.randrange(6)
         if kind == 0:
             del cards[at]
         elif kind == 1:
@@ -917,6 +1081,9 @@ def spoiled(rng, cards):
         elif kind == 3:
             place = rng.randrange(24)
             cards[at] = cards[at][:place] + bytes([rng.randrange(256)]) + cards[at][place + 1:]
+        elif kind == 4:
+            name = '%s%d' % (rng.choice(['TSCAL', 'TZERO']), rng.choice([1, 1, 2, 3, 9]))
+            cards.insert(rng.randrange(len(cards) + 1), keyword(name, rng.choice(VALUES)))
         else:
             cards[at] = cards[at][:10] + text('%d' % rng.randrange(-2, 40)).ljust(70)
     return cards
@@ -954,7 +1121,7 @@ def random_lines(rng, one):
     for step in one.steps:
         number = zeros(rng, step.row)
         line = {READ: b'cell', SEEK: b'seek ' + number, ROW: b'row ' + number}.get(step.kind)
-        made += [line] * step.times if line else []
+        made += [line + b' scaled' * step.scaled] * step.times if line else []
     return made
 
 

@@ -15,8 +15,9 @@ the layout are read by layout_cases.py, which is such a reader too.
 A case is a header, a data area, a second area (often empty), a choice of columns, a heap setting, and steps. The entry
 gets the header and the first area. The opening and each step say which of the areas they are lent, and how many bytes
 of it at most. A step may also give the cursor any place and count, or any columns. A row read says how long its list
-is; the list is full of one cell that no table has, and is shown after the step. A read or seek is done by value or over
-a lent cursor: which of the two is left to chance, and the reader below knows no difference.
+is; the list is full of one cell that no table has, and is shown after the step. A read is plain or scaled. A read or
+seek is done by value or over a lent cursor: which of the two is left to chance, and the reader below knows no
+difference.
 """
 import collections
 import os
@@ -26,17 +27,17 @@ import sys
 
 sys.dont_write_bytecode = True
 
-from header_cases import BLOCK, LIMIT, RECORD, ended, text
-from layout_cases import DESCRIPTOR, WIDTH, Refused, form_of, layout_of, table
+from header_cases import BLOCK, LIMIT, RECORD, ended, keyword, text
+from layout_cases import DESCRIPTOR, NUMBERS, WIDTH, Refused, double_bits, form_of, layout_of, table
 
 MOST_HEADER = 3 * BLOCK
 MOST_INDEXES = 128
-KEPT = 24
+KEPT = 32
 LARGEST_COUNT = 4294967295
 MOST_CELLS = 512
 
 # the cases by name stay below this, so that the repository stays small; the program reads any length
-MOST_NAMED = 114688
+MOST_NAMED = 147456
 
 # ---- the plain list ----
 
@@ -110,6 +111,39 @@ def row_entries(layout, area, choice, heap, row):
     for c in choice:
         made += field_entries(layout, area, heap, row, c)
     return made
+
+
+# ---- the scaled values ----
+
+# with the factor 1 and such a zero the answer is the exact whole number; U is an unsigned one of 64 bits
+SHIFTS = {'B': (-128, 'K'), 'I': (2 ** 15, 'U'), 'J': (2 ** 31, 'U'), 'K': (2 ** 63, 'U')}
+NAN = 0x7FF8 << 48
+
+
+def stored_double(letter, value):
+    """The stored number as the nearest double. Python rounds a whole number so, halves to even."""
+    if letter in 'ED':
+        return struct.unpack('>f', be(4, value))[0] if letter == 'E' else struct.unpack('>d', be(8, value))[0]
+    return float(value)
+
+
+def scaled_value(letter, value, scaling):
+    """The letter and the number of a scaled value; that of a double is its bits. Python's product is rounded, and then
+    its sum."""
+    factor, zero = scaling or (1.0, 0.0)
+    shift, whole = SHIFTS.get(letter, (None, None))
+    if (factor, zero) == (1, shift):
+        return whole, value + shift
+    made = zero + factor * stored_double(letter, value)
+    return 'D', NAN if made != made else double_bits(made)
+
+
+def scaled(layout, cell):
+    """The cell as the scaled reading has it. Its letter is that of the item, and P or Q where no array is followed."""
+    if cell.kind not in NUMBERS:
+        return cell
+    kind, value = scaled_value(cell.kind, *cell.value, layout.columns[cell.column].scaling)
+    return cell._replace(kind=kind, value=[value])
 
 
 # ---- the plain walk ----
@@ -202,8 +236,12 @@ class Walk:
                 return 'sought', 0
             if step.kind == ROW:
                 handed = self.next_row(area, cells)
+                if step.scaled and handed:
+                    cells[:handed] = [scaled(self.layout, cell) for cell in cells[:handed]]
                 return ('end', 0) if handed is None else ('row %d' % handed, handed)
             cell = self.next(area)
+            if step.scaled and cell is not None:
+                cell = scaled(self.layout, cell)
             return 'end' if cell is None else told(cell), 0
         except Refused as refusal:
             return 'refused %d %d' % refusal.args, 0
@@ -268,7 +306,7 @@ def lent(case, of):
 # ---- making cases ----
 
 Case = collections.namedtuple('Case', 'why said header area other indexes heap opening steps')
-Step = collections.namedtuple('Step', 'kind row times lent over', defaults=[False])
+Step = collections.namedtuple('Step', 'kind row times lent over scaled', defaults=[False, False])
 Place = collections.namedtuple('Place', 'passed count')
 Lent = collections.namedtuple('Lent', 'other most')
 
@@ -280,6 +318,11 @@ READ, SEEK, PUT, CHOOSE, ROW = 0, 1, 2, 3, 4
 
 def reads(times=1, of=WHOLE):
     return [Step(READ, 0, times, of)]
+
+
+def scaling(steps):
+    """The same steps, the reads of the scaled reading."""
+    return [step._replace(scaled=step.kind in (READ, ROW)) for step in steps]
 
 
 def seek(row, of=WHOLE):
@@ -331,26 +374,29 @@ def flat(of):
     return of if isinstance(of, bytes) else b''.join(of)
 
 
-def header_of(forms, rows, pcount, gap, written=None):
-    """NAXIS1 is that of `forms`; `written`, if given, stands in the header in their place."""
+def header_of(forms, rows, pcount, gap, written=None, scales=()):
+    """NAXIS1 is that of `forms`; `written`, if given, stands in the header in their place. `scales` are names of TSCALn
+    and TZEROn, each with its value."""
     naxis1 = sum(field_bytes(form) for form in forms)
     theap = None if gap is None else naxis1 * rows + gap
-    return ended(table(written or forms, naxis1, rows=rows, pcount=pcount, theap=theap))
+    records = table(written or forms, naxis1, rows=rows, pcount=pcount, theap=theap)
+    return ended(records + [keyword(name, value) for name, value in scales])
 
 
 def case(why, said, forms, rows, steps, heap=b'', gap=None, extra=b'', indexes=None, follow=True, other=b'',
-         opening=WHOLE, short=0, written=None):
+         opening=WHOLE, short=0, written=None, scales=()):
     """What it is for; its answers by hand (None where that is long); the forms, the rows (a number of rows of no bytes,
     or the bytes of each), the steps; what follows the rows up to PCOUNT, and THEAP's distance from the main size (None
     for no THEAP); bytes after it, the choice (None for all), whether the heap is on, the second area, what the opening
-    is lent, by how many bytes the first area is too short, the forms as the header has them where they are bad."""
+    is lent, by how many bytes the first area is too short, the forms as the header has them where they are bad, the
+    values of TSCALn and TZEROn by their names."""
     rows = [b''] * rows if isinstance(rows, int) else [flat(row) for row in rows]
     naxis1 = sum(field_bytes(form) for form in forms)
     assert all(len(row) == naxis1 for row in rows), why
     area = b''.join(rows) + heap + extra
     area = area[:len(area) - short]
-    return Case(why, said, header_of(forms, len(rows), len(heap), gap, written), area, other, indexes, follow, opening,
-                flagged(random.Random(why), steps))
+    header = header_of(forms, len(rows), len(heap), gap, written, dict(scales).items())
+    return Case(why, said, header, area, other, indexes, follow, opening, flagged(random.Random(why), steps))
 
 
 def answers(lines):
@@ -993,11 +1039,100 @@ def counted_form_cases():
     ]
 
 
+def doubles(*numbers):
+    """Doubles as they are printed, by their bits; a NaN has those of 7FF8000000000000."""
+    return ' '.join('%d' % (NAN if of != of else double_bits(of)) for of in numbers)
+
+
+# whole numbers as they are stored, and as they are with these zeros and the factor 1
+ZEROS = {'TZERO1': '-128', 'TZERO2': '32768', 'TZERO3': '2147483648', 'TZERO4': '9223372036854775808'}
+WHOLE_FORMS = ['3B', '3I', '3J', '3K']
+WHOLE_ROW = (be(1, 0, 128, 255) + be(2, -2 ** 15, 0, 2 ** 15 - 1) + be(4, -2 ** 31, -1, 2 ** 31 - 1)
+             + be(8, -2 ** 63, -1, 2 ** 63 - 1))
+STORED = '0 128 255 -32768 0 32767 -2147483648 -1 2147483647 -9223372036854775808 -1 9223372036854775807'
+SHIFTED = '-128 0 127 0 32768 65535 0 2147483647 4294967295 0 9223372036854775807 18446744073709551615'
+
+
+def scaled_number_cases():
+    """One item after the other in the scaled reading."""
+    forms, row = WHOLE_FORMS, WHOLE_ROW
+    infinity, nan = float('inf'), float('nan')
+    odd = doubles(infinity, -infinity, 0.0, *[nan] * 8)
+
+    def one(why, said, forms, row, **scales):
+        return case('scaled: ' + why, said, forms, [row], scaling(reads(len(said.split()))), scales=scales)
+
+    return [
+        one('exact whole numbers, and the end', SHIFTED + ' end', forms, row, **ZEROS),
+        one('the factor given as 1', SHIFTED, forms, row, TSCAL1='1.0', TSCAL2='+1', TSCAL3='10E-1', TSCAL4='.1D1',
+            **ZEROS),
+        one('neither keyword', doubles(0.0, 128.0, 255.0, -32768.0, 0.0, 32767.0, -2.0 ** 31, -1.0, 2.0 ** 31 - 1,
+                                       -2.0 ** 63, -1.0, 2.0 ** 63), forms, row),
+        one('the factor -1 and those zeros', doubles(
+            -128.0, -256.0, -383.0, 65536.0, 32768.0, 1.0, 2.0 ** 32, 2.0 ** 31 + 1, 1.0, 2.0 ** 64, 2.0 ** 63, 0.0),
+            forms, row, TSCAL1='-1', TSCAL2='-1', TSCAL3='-1', TSCAL4='-1', **ZEROS),
+        one('the zeros of other types', doubles(
+            32768.0, 32896.0, 33023.0, -32896.0, -128.0, 32639.0, -2.0 ** 31 + 32768, 32767.0, 2.0 ** 31 + 32767,
+            -2.0 ** 63 + 2.0 ** 31, 2.0 ** 31 - 1, 2.0 ** 63 + 2.0 ** 31), forms, row, TZERO1='32768', TZERO2='-128',
+            TZERO3='32768', TZERO4='2147483648'),
+        one('those zeros of E and D', doubles(32769.5, -126.5), ['1E', '1D'], be(4, 0x3FC00000) + be(8, 0x3FF8 << 48),
+            TZERO1='32768', TZERO2='-128'),
+        one('single floats with neither: infinities, -0.0, NaNs', odd, ['11E'], be(4, *FLOATS[:11])),
+        one('double floats with neither', odd, ['11D'], be(8, *DOUBLES[:11])),
+        one('the factor 0 makes NaN of infinities', doubles(nan, nan, 0.0, 0.0), ['4E'],
+            be(4, FLOATS[0], FLOATS[1], FLOATS[2], 0x3F800000), TSCAL1='0'),
+        one('past the largest double', doubles(infinity, -infinity, 1e22), ['3D'],
+            be(8, DOUBLES[14], DOUBLES[14] + 2 ** 63, 0x3FF << 52), TSCAL1='1E22'),
+        one('whole numbers between doubles go to the even one', doubles(2.0 ** 53, 2.0 ** 53 + 4, 2.0 ** 63), ['3K'],
+            be(8, 2 ** 53 + 1, 2 ** 53 + 3, 2 ** 63 - 1), TSCAL1='1'),
+        # 0.1 as a double times 3 lies above 0.3 as a double by 2 to the -55th, and by twice that if it is rounded
+        one('the product is rounded before the sum', doubles(2.0 ** -54), ['1B'], b'\3', TSCAL1='0.1', TZERO1='-0.3'),
+    ]
+
+
+def scaled_cases():
+    """The scaled reading, and refusal 16."""
+    # the entries of a row are 7, 3 and 3, of which the last of row 2 is a 13; with the heap off 6 each
+    mixed, heap = ['1PI', '1B', '1QE', '2A', '1PX'], be(2, 5, -5) + be(4, 0x3FC00000)
+    rows = [p(2, 0) + b'\x07' + q(1, 4) + b'ab' + p(8, 0), p(0, 9) + b'\x08' + q(0, 0) + b'cd' + p(0, 0),
+            p(1, 2) + b'\x09' + q(2, 4) + b'ef' + p(0, 0)]
+    ten, less, half, seven, eight, nine = doubles(10.0, -10.0, -0.5, 7.5, 8.5, 9.5).split()
+
+    def arrays_of(why, said, steps, **more):
+        return case('scaled: ' + why, said, mixed, rows, steps, heap=heap, scales={
+            'TSCAL1': '2', 'TZERO2': '0.5', 'TSCAL3': '-1', 'TZERO3': '1'}, **more)
+
+    return scaled_number_cases() + [
+        case('scaled: plain and scaled reads of one row',
+             'row:12[%s] sought row:12[%s] sought -128 0 255 -32768 row:8[%s]' % (
+                 SHIFTED.replace(' ', ';'), STORED.replace(' ', ';'), ';'.join(SHIFTED.split()[4:])), WHOLE_FORMS,
+             [WHOLE_ROW], scaling(row_reads(12)) + seek(0) + row_reads(12) + seek(0) + scaling(reads(2)) + reads(2)
+             + scaling(row_reads(8)), scales=ZEROS),
+        arrays_of('cells of arrays and of other types', ' '.join([
+            ten, less, seven, half, '97 98 0', eight, '99 100', less, nine, '13:2 13:2']), scaling(reads(14))),
+        arrays_of('descriptors that are not followed', ' '.join([
+            '2,0', seven, '1,4 97 98 8,0 0,9', eight, '0,0 99 row:2[100;0,0;_] row:6[1,2;%s;2,4;101;102;0,0]' % nine]),
+            scaling(reads(10) + row_reads(3) + row_reads(6)), follow=False),
+        arrays_of('the rest of a row, 14 and 13', '14:7[_] 14:7 5 14:6[_;_;_] row:6[%s;%s;%s;97;98;0;_] '
+                  'row:3[%s;99;100;_] 13:2[_;_;_;_;_] 13:2 13:2[_] %s %s 13:2 13:2' % (
+                      less, seven, half, eight, less, nine),
+                  scaling(row_reads(1) + row_reads(0)) + reads() + row_reads(3) + scaling(row_reads(7) + row_reads(4))
+                  + scaling(row_reads(5) + row_reads(0)) + row_reads(1) + scaling(reads(4))),
+        arrays_of('made places, choices and lent areas', 'put %s %s %s row:3[97;98;0;_] put 10:0 10:0[_;_] put put '
+                  'row:3[%s;97;98;_] %s 99 10:0 10:0[_]' % (less, seven, half, seven, eight),
+                  put(0, 1, LARGEST_COUNT - 1) + scaling(reads(3) + row_reads(4)) + put(9, 0)
+                  + scaling(reads() + row_reads(2)) + choose(1, 3) + put(0, 0) + scaling(row_reads(4) + reads(2))
+                  + scaling(reads(1, first(9)) + row_reads(1, of=first(9)))),
+        case('16: a zero of 16 digits', '', ['1I'], [be(2, 1)], reads(), scales={'TZERO1': '1234567890.123456'}),
+        case('16: characters', '', ['1I', '1A'], [be(2, 1) + b'a'], reads(), scales={'TSCAL2': '1'}),
+    ]
+
+
 def named():
     """All of them."""
     return (value_cases() + heap_cases() + end_cases() + row_cases() + choice_cases() + seek_cases() + area_cases()
             + place_cases() + row_read_cases() + row_heap_cases() + row_place_cases() + empty_field_cases()
-            + counted_form_cases())
+            + counted_form_cases() + scaled_cases())
 
 
 # ---- random cases ----
@@ -1066,6 +1201,26 @@ def random_form(rng, style):
     if letter in 'LBA' and rng.randrange(25) == 0:
         digits = rng.choice(['25', '26', '100', '500', '511', '512', '513', '600'])
     return digits + letter + rest
+
+
+FACTORS = ['1', '1.0', '1', '2', '-1', '0.5', '0.1', '0.3', '-.7E-5', '3', '1E22', '1D-22', '0', '123456789.012345']
+ANY_ZEROS = ['0', '-0', '1', '-0.5', '0.1', '32768', '-32768', '-128', '2147483648', '9223372036854775808',
+             '-9223372036854775808', '1E22', '-2.5D-3', '999999999999999']
+NO_NUMBERS = ['1e5', '1E23', '.', "'1'", '1234567890123456', '1 2', '']
+
+
+def random_scales(rng, forms):
+    """TSCALn and TZEROn of columns, most of those that may have them, and now and then of another or a bad one."""
+    made = {}
+    for n, form in enumerate(forms, 1):
+        letter = form_of(text(form))[0][-1]
+        if rng.randrange(3) and (letter in NUMBERS or rng.randrange(90) == 0):
+            zero = '%d' % SHIFTS[letter][0] if letter in SHIFTS and rng.randrange(2) else rng.choice(ANY_ZEROS)
+            of = {'TSCAL%d' % n: rng.choice(FACTORS), 'TZERO%d' % n: zero}
+            of = {name: rng.choice(NO_NUMBERS) if rng.randrange(150) == 0 else value for name, value in of.items()}
+            keys = rng.choice([['TSCAL'], ['TZERO'], ['TZERO'], ['TSCAL', 'TZERO'], ['TZERO', 'TSCAL']])
+            made.update({key + '%d' % n: of[key + '%d' % n] for key in keys})
+    return made
 
 
 def above_one(rng, forms):
@@ -1140,6 +1295,8 @@ def random_steps(rng, rows, columns, sizes, area, other):
     whole = reads(min(255, max(1, total + rng.choice([-1, 0, 1, 2]))))
     by_row = row_reads(min(MOST_CELLS, max(sizes or [0]) + rng.choice([0, 0, 1, 5])), rows + rng.choice([1, 1, 2]))
     again = seek(random_row(rng, rows))
+    made, whole, by_row = (scaling(of) if rng.randrange(3) == 0 else of for of in (made, whole, by_row))
+    made = [scaling([step])[0] if rng.randrange(3) == 0 else step for step in made]
     return flagged(rng, rng.choice([made, made, made, made + seek(0) + whole, whole + again + made,
                                     made + seek(0) + by_row, by_row + again + made]))
 
@@ -1159,7 +1316,9 @@ def random_case(rng):
     other = b''
     if rng.randrange(3) == 0:
         other = random_rows(rng, forms, rows, room, clean) + heap[::-1] + bytes(rng.choice([0, 0, 1, 5]))
-    header = header_of(forms, rows, pcount, gap, above_one(rng, forms) if rng.randrange(30) == 0 else None)
+    scales = {} if wide or rng.randrange(3) == 0 else random_scales(rng, forms)
+    header = header_of(forms, rows, pcount, gap, above_one(rng, forms) if rng.randrange(30) == 0 else None,
+                       scales.items())
     area += bytes(rng.choice([0, 0, 0, 1, 20]))
     if rng.randrange(40) == 0:
         area = area[:max(0, len(area) - rng.choice([1, 2, 21]))]
@@ -1218,7 +1377,7 @@ def packed_header(header):
 def packed_step(one, step):
     assert 0 < step.times < 256
     assert step.kind != ROW or step.row <= MOST_CELLS
-    made = struct.pack('>BBQ', step.kind + 128 * step.over, step.times, step.row)
+    made = struct.pack('>BBQ', step.kind + 64 * step.scaled + 128 * step.over, step.times, step.row)
     return made + (struct.pack('>II', *step.lent) if step.kind == PUT else packed_lent(one, step.lent))
 
 
@@ -1246,9 +1405,10 @@ def runs_of(cases):
     for one in cases:
         if 'opened' in said_of(one):
             for step in one.steps:
-                runs[step.kind, step.over] += step.times
-    names = {READ: 'cell reads', SEEK: 'seeks', ROW: 'row reads'}
-    return ', '.join('%s %d + %d lent' % (names[kind], runs[kind, False], runs[kind, True]) for kind in names)
+                runs[step.kind, step.scaled, step.over] += step.times
+    names = {(READ, False): 'cell reads', (READ, True): 'scaled ones', (SEEK, False): 'seeks',
+             (ROW, False): 'row reads', (ROW, True): 'scaled ones'}
+    return ', '.join('%s %d + %d lent' % (names[of], runs[of + (False,)], runs[of + (True,)]) for of in names)
 
 
 def tell(cases, size, said):

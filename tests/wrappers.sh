@@ -270,7 +270,8 @@ expect 0 '' replay table.fits steps.txt
 wants replay table.fits none.txt
 expect 0 '' replay table.fits none.txt
 may="First there may be lines \`choose all\`, \`choose I I ..\`, \`heap on\` and \`heap off\`, then only \`cell\`,"
-may="$may \`row N\` with N at most 512, and \`seek R\`, with one space between two words and none elsewhere,"
+may="$may \`row N\` with N at most 512, either with the word \`scaled\` after it, and \`seek R\`,"
+may="$may with one space between two words and none elsewhere,"
 may="$may each line ended by a line feed alone"
 printf 'cell\nrow 513\ncell\n' >"$work/steps.txt"
 wants replay table.fits steps.txt

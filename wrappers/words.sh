@@ -97,6 +97,10 @@ words() { # NUMBER PLACE TABLE
     12) echo "row $2, counted from 0, is no row of the table" ;;
     13) echo "an array of column $2, counted from 0, ends past the heap" ;;
     14) echo "the list is shorter than what is left of the row, $2 cells" ;;
+    16)
+        say_all "TSCAL$2 or TZERO$2 is not a number that this reader takes, is given twice, or stands at a column " \
+            'whose type has no scaling: those of B, I, J, K, E and D have one'
+        ;;
     *) echo 'docs/FORMAT.md, section 10, does not have this number' ;;
     esac | if [ "$1" -le 4 ] && whole_file "$3"; then
         printf '%s; ' "$(cat)"
@@ -111,6 +115,6 @@ words() { # NUMBER PLACE TABLE
 bad_line() { # LINE STEPS
     text=$(LC_ALL=C sed -n "$1p" "$2" | head -c 40 | LC_ALL=C tr -c ' -~\n' '?')
     say_all "it reads '$text'. First there may be lines \`choose all\`, \`choose I I ..\`, \`heap on\` and " \
-        "\`heap off\`, then only \`cell\`, \`row N\` with N at most 512, and \`seek R\`, with one space between two " \
-        'words and none elsewhere, each line ended by a line feed alone'
+        "\`heap off\`, then only \`cell\`, \`row N\` with N at most 512, either with the word \`scaled\` after it, and " \
+        '`seek R`, with one space between two words and none elsewhere, each line ended by a line feed alone'
 }

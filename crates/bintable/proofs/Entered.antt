@@ -3,10 +3,10 @@
 use mathlib.Core.Path.{◌≡◌, refl, sym, ◌∙◌, ap, subst}
 use mathlib.Core.Bool.{cond}
 use mathlib.Core.List.{List, ◌++◌}
-use Prim.Native.Nat.{ℕ, ◌-◌, ◌*◌, ◌^◌, ◌≤◌, ◌<◌}
+use Prim.Native.Nat.{ℕ, ◌+◌, ◌-◌, ◌*◌, ◌^◌, ◌≤◌, ◌<◌}
 use native.Mathlib.Omega.{arith}
 use lib.Dec.{eqb}
-use lib.ListN.{length, take, replicate}
+use lib.ListN.{length, get_or, take, replicate, get_or-append}
 use lib.Seq.{take-append_seam}
 use Rattle.keyword.specs.Names.{index_limit}
 use Rattle.refusal.specs.Refusal.{Outcome, accepted, refused, before}
@@ -19,7 +19,7 @@ use Rattle.bintable.specs.Entry.{nine, nine_checks, column_checks, layout_of, ch
 use Rattle.bintable.specs.Entry as E
 use Rattle.bintable.proofs.Bounds.{value_limit, size_limits, main_limit, both_accepted, first_accepted}
 use Rattle.bintable.proofs.Nine.{kinds, sizes, rest, nine_parts}
-use Rattle.bintable.proofs.Filled.{columns_to, columns_length}
+use Rattle.bintable.proofs.Filled.{column_of, columns_to, columns_length, column_from}
 
 regroup : (c n k r t : Outcome) → before (before c (before n (before k (before r accepted)))) t ≡ before (before c n) (before (before k r) t)
 regroup (refused x p) n k r t = refl
@@ -52,6 +52,14 @@ module _ (h : List ℕ) where
       let n = size_for h "TFIELDS" in
       subst (λ (k : ℕ). take k (columns_to h n ++ replicate (64 - n) no_column) ≡ columns_to h n) (columns_length h 0 1 n)
       (take-append_seam (columns_to h n) (replicate (64 - n) no_column))
+
+  -- column c, from 0, is that of n = c + 1
+  pub column_in : (c : ℕ) → c < (layout_of h).tfields → (b : ℕ) × (get_or (layout_of h).columns c no_column ≡ column_of h b (c + 1))
+  unfolding layout_of
+  column_in c p =
+      let n = size_for h "TFIELDS" in let r = column_from h 0 1 n c p in
+      let i : c < length (columns_to h n) = omega (arith, columns_length h 0 1 n, p) in
+      (r.0, get_or-append (columns_to h n) (replicate (64 - n) no_column) no_column c i ∙ r.1 ∙ ap (column_of h r.0) (omega arith))
 
   naxis1_of : (layout_of h).naxis1 ≡ size_for h "NAXIS1"
   unfolding layout_of

@@ -5,10 +5,10 @@ use mathlib.Core.Path.{◌≡◌, refl, sym, ◌∙◌, ap}
 use mathlib.Core.Bool.{true}
 use mathlib.Core.List.{List, [], ◌∷◌, ◌++◌, map, append_assoc}
 use Prim.Native.Nat.{ℕ, zero, suc, ◌+◌, ◌-◌, ◌*◌, ◌^◌, ◌≤◌, ◌<◌}
-use native.Mathlib.Nat.{add-zero, add-suc, suc-add}
+use native.Mathlib.Nat.{add-zero, add-suc, suc-add, le_of_suc-le-suc, not-suc-le-zero}
 use native.Mathlib.Numerals.{add-one}
 use native.Mathlib.Omega.{arith}
-use lib.ListN.{length, replicate, set}
+use lib.ListN.{length, get_or, replicate, set}
 use lib.Seq.{set_at}
 use Rattle.card.specs.declared.Value.TheVariants.{String}
 use Rattle.card.proofs.Inside.{value_inside}
@@ -76,6 +76,15 @@ module _ (h : List ℕ) where
   unfolding columns_from
   columns_length at n zero = refl
   columns_length at n (suc k) = ap suc (columns_length (at + column_bytes (column_of at n)) (suc n) k)
+
+  -- the column with index c of those from column n on
+  pub column_from : (at n k c : ℕ) → c < k → (b : ℕ) × (get_or (columns_from h at n k) c no_column ≡ column_of b (n + c))
+  unfolding columns_from
+  column_from at n zero c p = absurd (not-suc-le-zero p)
+  column_from at n (suc k) zero p = (at, rw (add-zero n))
+  column_from at n (suc k) (suc c) p =
+      let r = column_from (at + column_bytes (column_of at n)) (suc n) k c (le_of_suc-le-suc p) in
+      (r.0, r.1 ∙ ap (column_of r.0) (suc-add n c ∙ sym (add-suc n c)))
 
   columns_snoc : (at n k : ℕ) → columns_from h at n (suc k) ≡ columns_from h at n k ++ (column_of (at + row_bytes (columns_from h at n k)) (n + k) ∷ [])
   unfolding columns_from row_bytes

@@ -25,7 +25,7 @@ use Rattle.bintable.proofs.Entered.{nine_sizes, nine_rest, nine_tfields, columns
 use Rattle.refusal.specs.Refusal as O
 
 -- a check that passes holds
-passes : (t : Bool) (n p : ℕ) → cond t O.accepted (O.refused n p) ≡ O.accepted → t ≡ true
+pub passes : (t : Bool) (n p : ℕ) → cond t O.accepted (O.refused n p) ≡ O.accepted → t ≡ true
 passes true n p e = refl
 passes false n p e = refused_not n p e
 
@@ -80,12 +80,14 @@ module _ (h : List ℕ) where
     passed O.accepted m e = (refl, cc)
     passed (O.refused n p) m e = cc
 
-    parts : entry h a ≡ accepted l → ((nine_checks h ≡ O.accepted) × (check9 (layout_of h) ≡ O.accepted)) × ((check10 (layout_of h) a ≡ O.accepted) × (l ≡ layout_of h))
+    parts : entry h a ≡ accepted l
+        → ((nine_checks h ≡ O.accepted) × ((column_checks h (size_for h "TFIELDS") ≡ O.accepted) × (check9 (layout_of h) ≡ O.accepted)))
+        × ((check10 (layout_of h) a ≡ O.accepted) × (l ≡ layout_of h))
     parts e =
         let q = passed (all_checks h a) (layout_of h) e in
         let w = both_accepted (before (checked h) (nine_checks h)) (before (before (column_checks h (size_for h "TFIELDS")) (check9 (layout_of h))) (check10 (layout_of h) a)) (sym (entry_parts h a) ∙ q.0) in
         let v = both_accepted (before (column_checks h (size_for h "TFIELDS")) (check9 (layout_of h))) (check10 (layout_of h) a) w.1 in
-        (((both_accepted (checked h) (nine_checks h) w.0).1, (both_accepted (column_checks h (size_for h "TFIELDS")) (check9 (layout_of h)) v.0).1), (v.1, q.1))
+        (((both_accepted (checked h) (nine_checks h) w.0).1, both_accepted (column_checks h (size_for h "TFIELDS")) (check9 (layout_of h)) v.0), (v.1, q.1))
 
     -- the header alone decides the layout
     pub entry_layout : entry h a ≡ accepted l → l ≡ layout_of h
@@ -93,7 +95,11 @@ module _ (h : List ℕ) where
 
     -- it keeps every limit and sum
     pub entry_ok : entry h a ≡ accepted l → layout_ok l ≡ true
-    entry_ok e = let p = parts e in ap layout_ok p.1.1 ∙ kept p.0.0 p.0.1
+    entry_ok e = let p = parts e in ap layout_ok p.1.1 ∙ kept p.0.0 p.0.1.1
+
+    -- its columns pass their checks
+    pub entry_columns : entry h a ≡ accepted l → column_checks h (size_for h "TFIELDS") ≡ O.accepted
+    entry_columns e = (parts e).0.1.0
 
     -- the data area is long enough
     pub entry_long : entry h a ≡ accepted l → data_size l ≤ length a

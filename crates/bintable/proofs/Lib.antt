@@ -8,3 +8,7 @@ pub mod Kept
 pub mod OwnNames
 pub mod BadForm
 pub mod Empty
+pub mod Scaled
+pub mod RealRecords
+pub mod TypeZeros
+pub mod ScaledHeaders

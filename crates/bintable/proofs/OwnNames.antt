@@ -5,23 +5,21 @@ use Rattle.std.specs.Prelude.{Option, Some, None}
 use mathlib.Core.Path.{◌≡◌, refl, sym, ◌∙◌, ap, subst}
 use mathlib.Core.Bool.{true, ◌&&◌}
 use mathlib.Core.List.{List}
-use Prim.Native.Nat.{ℕ, zero, suc, ◌+◌, ◌-◌, ◌≤◌, ◌<◌}
-use native.Mathlib.Nat.{add-zero, add-suc, suc-add, le_of_suc-le-suc, not-suc-le-zero}
-use native.Mathlib.Omega.{arith}
-use lib.ListN.{length, get_or, replicate, get_or-append}
+use Prim.Native.Nat.{ℕ, ◌+◌, ◌≤◌, ◌<◌}
+use lib.ListN.{length, get_or}
 use borrow.Author.Tests.{le-leb}
 use Rattle.card.specs.declared.Value.{Value}
 use Rattle.card.specs.declared.Value.TheVariants.{Integer, String}
 use Rattle.card.proofs.Inside.{value_inside}
-use Rattle.layout.specs.Layout.{no_column, column_bytes, columns_of}
+use Rattle.layout.specs.Layout.{no_column, columns_of}
 use Rattle.layout.specs.declared.Name.{Name}
 use Rattle.layout.specs.declared.Column.{Column}
 use Rattle.layout.specs.Names.{in_header, stretch_of, part_of, column_name, same_name, find_name}
 use Rattle.layout.proofs.Named.{name_at, column_at}
 use Rattle.layout.proofs.EitherCase.{found_upto}
-use Rattle.bintable.specs.Checks.{text_in, value_at, size_for, ttype_of}
-use Rattle.bintable.specs.Entry.{name_in, columns_from, layout_of}
-use Rattle.bintable.proofs.Filled.{column_of, columns_to, columns_length}
+use Rattle.bintable.specs.Checks.{text_in, value_at, ttype_of}
+use Rattle.bintable.specs.Entry.{name_in, layout_of}
+use Rattle.bintable.proofs.Entered.{column_in}
 
 module _ (h : List ℕ) where
   part_text : (v : Option Value) → ((a n : ℕ) → v ≡ Some (String a n) → a + n ≤ length h) → part_of h (name_in v) ≡ text_in h v
@@ -35,20 +33,8 @@ module _ (h : List ℕ) where
   record_text (Some k) = part_text (value_at h (Some k)) (λ a n e. value_inside a n h k e)
   record_text None = refl
 
-  column_name_lem : (at n k c : ℕ) → c < k → (get_or (columns_from h at n k) c no_column).name ≡ name_in (value_at h (ttype_of h (n + c)))
-  unfolding columns_from
-  column_name_lem at n zero c p = absurd (not-suc-le-zero p)
-  column_name_lem at n (suc k) zero p = rw (add-zero n)
-  column_name_lem at n (suc k) (suc c) p =
-      column_name_lem (at + column_bytes (column_of h at n)) (suc n) k c (le_of_suc-le-suc p)
-      ∙ ap (λ (m : ℕ). name_in (value_at h (ttype_of h m))) (suc-add n c ∙ sym (add-suc n c))
-
   listed : (c : ℕ) → c < (layout_of h).tfields → (get_or (layout_of h).columns c no_column).name ≡ name_in (value_at h (ttype_of h (c + 1)))
-  unfolding layout_of
-  listed c p =
-      let n = size_for h "TFIELDS" in
-      rw (get_or-append (columns_to h n) (replicate (64 - n) no_column) no_column c (omega (arith, columns_length h 0 1 n, p)))
-      (column_name_lem 0 1 n c p ∙ ap (λ (m : ℕ). name_in (value_at h (ttype_of h m))) (omega arith))
+  listed c p = ap (λ (x : Column). x.name) (column_in h c p).1
 
   pub own_name : (c : ℕ) → c < (layout_of h).tfields → column_name h (layout_of h) c ≡ text_in h (value_at h (ttype_of h (c + 1)))
   own_name c p = sym (name_at h (layout_of h) c p) ∙ ap (part_of h) (listed c p) ∙ record_text (ttype_of h (c + 1))

@@ -1,6 +1,7 @@
--- The values of the used names, and the checks 4 to 8 of their records (FORMAT.md, sections 3, 4 and 10).
+-- The values of the used names, and the checks 4 to 8 and 16 of their records (FORMAT.md, sections 3, 4 and 10).
 -- Assumes nothing.
-use Rattle.std.specs.Prelude.{ℕ, List, [], ◌∷◌, ◌++◌, Bool, true, false, ◌&&◌, cond, take, drop, leb, pos, negsuc, Option, Some, None}
+use Rattle.std.specs.Prelude.{ℕ, List, [], ◌∷◌, ◌++◌, Bool, true, false, not, ◌&&◌, ◌||◌, cond, take, drop, leb, pos, negsuc, Option, Some, None, is_some}
+use Rattle.std.specs.Float.{Float}
 use Prim.Native.String.{String}
 use Rattle.card.specs.declared.Value.{Value}
 use Rattle.card.specs.declared.Value.TheVariants.{Integer}
@@ -10,8 +11,12 @@ use Rattle.card.specs.Value.{value_of}
 use Rattle.keyword.specs.Names.{numeral}
 use Rattle.header.specs.Records.{found}
 use Rattle.refusal.specs.Refusal.{Outcome, accepted, refused, before}
-use Rattle.header.specs.Checks.{record_of}
+use Rattle.header.specs.Checks.{record_of, second_of}
+use Rattle.real.specs.Real.{real_at}
+use Rattle.tform.specs.declared.TFormType.{TFormType}
 use Rattle.tform.specs.declared.TForm.{TForm}
+use Rattle.tform.specs.Width.{can_scale}
+use Rattle.layout.specs.Layout.{no_scaling}
 
 -- ---- what a value is
 
@@ -70,6 +75,32 @@ tform_of h n = record_of h (bytes "TFORM" ++ numeral n)
 abbrev pub ttype_of : List ℕ → ℕ → Option ℕ
 ttype_of h n = record_of h (bytes "TTYPE" ++ numeral n)
 
+-- the records of the factor and of the zero of column n
+abbrev pub tscal_of : List ℕ → ℕ → Option ℕ
+tscal_of h n = record_of h (bytes "TSCAL" ++ numeral n)
+
+abbrev pub tzero_of : List ℕ → ℕ → Option ℕ
+tzero_of h n = record_of h (bytes "TZERO" ++ numeral n)
+
+-- whether either stands in the header, and whether either is given twice
+unfoldable pub scaling_given : List ℕ → ℕ → Bool
+scaling_given h n = found (tscal_of h n) || found (tzero_of h n)
+
+unfoldable pub twice : List ℕ → ℕ → Bool
+twice h n = found (second_of h (bytes "TSCAL" ++ numeral n)) || found (second_of h (bytes "TZERO" ++ numeral n))
+
+-- the real number of a record, if its value is one; that of a missing record is given
+abbrev pub real_or : Float → List ℕ → Option ℕ → Option Float
+real_or missing h (Some k) = real_at h k
+real_or missing h None = Some missing
+
+-- the factor and the zero of column n, if they are numbers: missing ones are 1 and 0
+abbrev pub factor_of : List ℕ → ℕ → Option Float
+factor_of h n = real_or no_scaling.factor h (tscal_of h n)
+
+abbrev pub zero_of : List ℕ → ℕ → Option Float
+zero_of h n = real_or no_scaling.zero h (tzero_of h n)
+
 -- ---- the checks, by their numbers
 
 -- a check of a record, which refuses with this number and the record as its place. A missing record passes: 4 has refused it, or it may be missing
@@ -97,6 +128,14 @@ check7 limit v r = unless 7 (leb (size_in v) limit) r
 abbrev pub check8 : ℕ → Option TForm → Outcome
 check8 n (Some f) = accepted
 check8 n None = refused 8 n
+
+-- the column can be scaled, and factor and zero are numbers and given once
+abbrev pub scaling_ok : List ℕ → ℕ → TFormType → Bool
+scaling_ok h n f = can_scale f && (not (twice h n) && (is_some (factor_of h n) && is_some (zero_of h n)))
+
+-- 16: a factor or a zero stands at a column of another type, is given twice or is no number; n
+unfoldable pub check16 : List ℕ → ℕ → TFormType → Outcome
+check16 h n f = cond (not (scaling_given h n) || scaling_ok h n f) accepted (refused 16 n)
 
 -- the first refusal of some checks
 unfoldable pub first_refusal : List Outcome → Outcome

@@ -1,6 +1,7 @@
 -- The entry (FORMAT.md, sections 7 to 10; the standard, 7.3.1, 7.3.2 and 7.3.5): for a header and a data area, the layout or one refusal.
 -- Assumes nothing.
 use Rattle.std.specs.Prelude.{ℕ, zero, suc, ◌+◌, ◌-◌, ◌*◌, List, [], ◌∷◌, ◌++◌, map, Bool, cond, length, replicate, eqb, leb, Option, Some, None, Result, Ok, Err}
+use Rattle.std.specs.Option.{unwrap_or}
 use Rattle.card.specs.declared.Value.{Value}
 use Rattle.card.specs.declared.Value.TheVariants.{Integer, String}
 use Rattle.ascii.specs.Text.{bytes, same}
@@ -15,10 +16,12 @@ use Rattle.tform.specs.declared.TFormType.TheVariants.{Items}
 use Rattle.tform.specs.declared.TForm.{TForm}
 use Rattle.tform.specs.Form.{form_of}
 use Rattle.layout.specs.declared.Name.{Name}
+use Rattle.layout.specs.declared.Scaling.{Scaling}
 use Rattle.layout.specs.declared.Column.{Column}
 use Rattle.layout.specs.declared.BinTable.{BinTable}
-use Rattle.layout.specs.Layout.{naxis1_limit, naxis2_limit, pcount_limit, tfields_limit, no_column, empty_layout, column_bytes, row_bytes, columns_of, data_size}
-use Rattle.bintable.specs.Checks.{is_integer, is_string, not_negative, size_in, within, text_in, value_at, record_for, size_for, tform_of, ttype_of, check4, check5, check6, check7, check8, first_refusal}
+use Rattle.layout.specs.Layout.{naxis1_limit, naxis2_limit, pcount_limit, tfields_limit, no_scaling, no_column, empty_layout, column_bytes, row_bytes, columns_of, data_size}
+use Rattle.bintable.specs.Checks.{is_integer, is_string, not_negative, size_in, within, text_in, value_at, record_for, size_for, tform_of, ttype_of, scaling_given, factor_of, zero_of}
+use Rattle.bintable.specs.Checks.{check4, check5, check6, check7, check8, check16, first_refusal}
 
 -- ---- the nine names
 
@@ -62,16 +65,6 @@ nine_checks h = first_refusal (nine h)
 abbrev pub form_for : List ℕ → ℕ → Option TForm
 form_for h n = form_of (text_in h (value_at h (tform_of h n)))
 
--- TFORMn by 4, 5 and 8, then TTYPEn, which may be missing, by 5
-unfoldable pub column_check : List ℕ → ℕ → Outcome
-column_check h n =
-    let r = tform_of h n in let t = ttype_of h n in
-    first_refusal (check4 n r ∷ check5 (is_string (value_at h r)) r ∷ check8 n (form_for h n) ∷ check5 (is_string (value_at h t)) t ∷ [])
-
--- the columns from 1 to `many`
-unfoldable pub column_checks : List ℕ → ℕ → Outcome
-column_checks h many = first_refusal (map (column_check h) (range 1 many))
-
 -- the type and the count of a form; a bad one has none
 abbrev pub type_in : Option TForm → TFormType
 type_in (Some f) = f.form
@@ -81,15 +74,37 @@ abbrev pub count_in : Option TForm → ℕ
 count_in (Some f) = f.count
 count_in None = 0
 
+-- TFORMn by 4, 5 and 8; then TTYPEn, which may be missing, by 5; then TSCALn and TZEROn, which may be missing, by 16
+unfoldable pub column_check : List ℕ → ℕ → Outcome
+column_check h n =
+    let r = tform_of h n in let t = ttype_of h n in let f = form_for h n in
+    first_refusal (check4 n r ∷ check5 (is_string (value_at h r)) r ∷ check8 n f ∷ check5 (is_string (value_at h t)) t ∷ check16 h n (type_in f) ∷ [])
+
+-- the columns from 1 to `many`
+unfoldable pub column_checks : List ℕ → ℕ → Outcome
+column_checks h many = first_refusal (map (column_check h) (range 1 many))
+
 -- the name that a value of TTYPEn is, as a stretch of the header; a missing one differs from an empty one
 abbrev pub name_in : Option Value → Option Name
 name_in (Some (Integer z)) = None
 name_in (Some (String a n)) = Some (record { start = a; len = n })
 name_in None = None
 
+-- the scaling of column n; in a header that 16 refuses what is no number reads as if it were missing
+unfoldable pub scaling_of : List ℕ → ℕ → Scaling
+scaling_of h n = record { factor = unwrap_or (factor_of h n) no_scaling.factor; zero = unwrap_or (zero_of h n) no_scaling.zero }
+
 -- column n, which starts at byte `at` of a row
 abbrev pub column_at : List ℕ → ℕ → ℕ → Column
-column_at h n at = record { form = type_in (form_for h n); count = count_in (form_for h n); start = at; name = name_in (value_at h (ttype_of h n)) }
+column_at h n at =
+    record {
+      form = type_in (form_for h n);
+      count = count_in (form_for h n);
+      start = at;
+      name = name_in (value_at h (ttype_of h n));
+      scaling_given = scaling_given h n;
+      scaling = scaling_of h n;
+    }
 
 -- as many columns as `many`, from column n, which starts at byte `at`: each other one starts where the one before ends
 unfoldable pub columns_from : List ℕ → ℕ → ℕ → ℕ → List Column

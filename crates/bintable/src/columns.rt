@@ -1,9 +1,9 @@
 // The columns of a header, and the layout.
 ghost use Rattle.std.specs.Prelude.{◌≡◌, cond, ◌++◌, ℕ, ◌+◌, ◌-◌, ◌≤◌, ◌<◌, ◌^◌, eqb, leb, length, replicate, IfOk};
 ghost use Rattle.card.specs.declared.Value.TheVariants.{String};
-ghost use Rattle.keyword.specs.Names.{column_slots, numeral, root_text};
+ghost use Rattle.keyword.specs.Names.{column_slots};
 ghost use Rattle.refusal.specs.Refusal.{accepted, refused, before, outcome_of};
-ghost use Rattle.header.specs.Checks.{record_of, checked};
+ghost use Rattle.header.specs.Checks.{checked};
 ghost use Rattle.layout.specs.Layout.{tfields_limit, no_column, row_bytes};
 ghost use Rattle.tform.specs.declared.TForm.{TForm};
 ghost use Rattle.bintable.specs.Checks.{size_for, check8};
@@ -80,15 +80,6 @@ fn check10(size: u64, len: usize) -> Result<(), Refusal>
 }
 
 impl<'a> Indexed<'a> {
-    // The record that a root has for column i, from 0.
-    fn column_record(&self, root: Root, i: usize) -> KeywordRecord<'a>
-        requires { i < column_slots }
-        ensures header { result.header.now ≡ self.now.header.now }
-        ensures number { result.number ≡ record_of self.now.header.now (root_text root ++ numeral (i + 1)) }
-    {
-        self.record(root.first_slot() + i)
-    }
-
     // Column i, from 0, which starts at byte `start` of a row.
     #[tactic(auto, unfolding(crate::specs::Checks::first_refusal, crate::specs::Entry::column_check))]
     fn read_column(&self, i: usize, start: u64) -> Result<Column, Refusal>
@@ -102,11 +93,14 @@ impl<'a> Indexed<'a> {
         form.check5(form.is_string())?;
         let tform = check8(i + 1, tform::parse_tform(form.text()))?;
         name.check5(name.is_string())?;
+        let scaling = self.read_scaling(i, tform.form)?;
         Ok(Column {
             form: tform.form,
             count: tform.count,
             start,
             name: name_in(name.value()),
+            scaling_given: self.scaling_given(i),
+            scaling,
         })
     }
 

@@ -4,16 +4,17 @@
 mod columns;
 mod keywords;
 mod record;
+mod scaling;
 
-ghost use Rattle.std.specs.Prelude.{◌≡◌, [], ◌<◌, length, get_or};
-ghost use Rattle.keyword.specs.Names.{slot_names, text_of};
-ghost use Rattle.header.specs.Records.{header_of, data_of};
-ghost use Rattle.header.specs.Checks.{index_by, record_of};
+ghost use Rattle.std.specs.Prelude.{◌≡◌, [], ◌++◌, ◌+◌, ◌<◌, length, get_or};
+ghost use Rattle.keyword.specs.Names.{slot_names, text_of, column_slots, numeral, root_text};
+ghost use Rattle.header.specs.Records.{found, header_of, data_of};
+ghost use Rattle.header.specs.Checks.{index_by, record_of, second_of};
 ghost use Rattle.bintable.specs.Checks.{size_in, value_at};
 ghost use Rattle.bintable.specs.Entry.{entry, entry_of};
 
 use header::Entry;
-use keyword::Keyword;
+use keyword::{Keyword, Root};
 use layout::BinTable;
 use record::KeywordRecord;
 use refusal::Refusal;
@@ -24,6 +25,15 @@ struct Indexed<'a> {
     header: &'a [u8],
     index: &'a [Entry],
     ghost of_header: { index.now ≡ index_by header.now },
+}
+
+// The slot of the name that a root has for column i, from 0.
+fn column_slot(root: Root, i: usize) -> usize
+    requires { i < column_slots }
+    ensures name { get_or slot_names result [] ≡ root_text root ++ numeral (i + 1) }
+    ensures inside { result < length slot_names }
+{
+    root.first_slot() + i
 }
 
 impl<'a> Indexed<'a> {
@@ -46,7 +56,25 @@ impl<'a> Indexed<'a> {
         self.record(keyword.slot())
     }
 
-    // The number of its value, 0 where there is none.
+    // That of a root for column i, from 0.
+    fn column_record(&self, root: Root, i: usize) -> KeywordRecord<'a>
+        requires { i < column_slots }
+        ensures header { result.header.now ≡ self.now.header.now }
+        ensures number { result.number ≡ record_of self.now.header.now (root_text root ++ numeral (i + 1)) }
+    {
+        self.record(column_slot(root, i))
+    }
+
+    // Whether a second record has the name of a root for column i.
+    #[tactic(auto, using(header::proofs::Lookup::slot_second))]
+    fn is_repeated(&self, root: Root, i: usize) -> bool
+        requires { i < column_slots }
+        ensures { result ≡ found (second_of self.now.header.now (root_text root ++ numeral (i + 1))) }
+    {
+        header::second_of(self.index, column_slot(root, i)).is_some()
+    }
+
+    // The number of the value of a name that is not numbered by column, 0 where there is none.
     fn size(&self, keyword: Keyword) -> u64
         ensures { result ≡ size_in (value_at self.now.header.now (record_of self.now.header.now (text_of keyword))) }
     {

@@ -1,7 +1,7 @@
 // The record of a used name with its value, and the checks of both, each by its number in docs/FORMAT.md, section 10.
 ghost use Rattle.std.specs.Prelude.{◌≡◌, take, drop};
 ghost use Rattle.refusal.specs.Refusal.{outcome_of};
-ghost use Rattle.bintable.specs.Checks.{is_integer, is_string, not_negative, size_in, within, text_in, value_at};
+ghost use Rattle.bintable.specs.Checks.{is_integer, is_string, not_negative, size_in, within, text_in, value_at, real_or};
 ghost use Rattle.bintable.specs.Checks.{check4, check5, check6, check7};
 
 use card::Value;
@@ -100,6 +100,16 @@ impl<'a> KeywordRecord<'a> {
             return &[];
         };
         stretch(self.header, start, len)
+    }
+
+    // The real number of the record, if its value is one; that of a missing record is given.
+    pub fn real_or(&self, missing: f64) -> Option<f64>
+        ensures { result ≡ real_or missing self.now.header.now self.now.number }
+    {
+        match self.number {
+            Some(record) => real::parse(self.header, record),
+            None => Some(missing),
+        }
     }
 
     pub fn check4(&self, n: usize) -> Result<(), Refusal>

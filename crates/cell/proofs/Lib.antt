@@ -6,3 +6,7 @@ pub mod Swapped
 pub mod Arrays
 pub mod Inside
 pub mod Empty
+pub mod ScaledLaws
+pub mod ScaledExamples
+pub mod Ranges
+pub mod Elements

@@ -45,7 +45,8 @@ raw_item T.C a p =
 raw_item T.M a p =
     D.ComplexDouble (of_bits binary64 (word a p 8)) (word a p 8) (of_bits binary64 (word a (p + 8) 8)) (word a (p + 8) 8)
 
--- what a column makes of a raw value: the raw value itself. Scaling and missing values will look at the column here
+-- what a column makes of a raw value: the raw value itself. Missing values will look at the column here. The scaled
+-- value is made of this one (specs/Scaled)
 abbrev pub value_in : Column → DataValue → DataValue
 value_in column raw = raw
 
@@ -64,6 +65,7 @@ BitsKept (D.UnsignedByte v) = Unit {0}
 BitsKept (D.Short v) = Unit {0}
 BitsKept (D.Integer v) = Unit {0}
 BitsKept (D.Long v) = Unit {0}
+BitsKept (D.UnsignedLong v) = Unit {0}
 BitsKept (D.Character v) = Unit {0}
 BitsKept (D.Float v b) = OfBits binary32 v b
 BitsKept (D.Double v b) = OfBits binary64 v b

@@ -1,6 +1,7 @@
 // One item of a field or of a heap array and its value, and the array that a descriptor names.
 #![tactic(auto)]
 
+mod scaled;
 pub mod words;
 
 ghost use Rattle.std.specs.Prelude.{◌≡◌, ◌+◌, ◌*◌, ◌≤◌, SomeIff};
@@ -8,6 +9,7 @@ ghost use Rattle.cell.specs.Item.{width, logical, raw_item, value_in, item, blan
 ghost use Rattle.cell.specs.Field.{no_items, array, field32, field64, field, size_of};
 
 use layout::Column;
+pub use scaled::scaled_value;
 use std::num;
 use tform::{TFormType, VariableArrayTy};
 
@@ -30,6 +32,8 @@ pub enum DataValue {
     Short(i16),
     Integer(i32),
     Long(i64),
+    // Of scaled values alone.
+    UnsignedLong(u64),
     Character(u8),
     Float {
         value: f32,
@@ -169,8 +173,8 @@ fn raw_item(area: &[u8], at: u64, ty: VariableArrayTy) -> DataValue
     }
 }
 
-// What a column makes of a raw value: the raw value itself. Scaling and missing values, which depend on the column's
-// keywords, will be here and nowhere else.
+// What a column makes of a raw value: the raw value itself. Missing values, which depend on the column's keywords, will
+// be here and nowhere else.
 fn value_in(column: Column, raw: DataValue) -> DataValue
     ensures { result ≡ value_in column raw }
 {

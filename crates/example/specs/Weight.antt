@@ -8,13 +8,14 @@ use Rattle.layout.specs.Names.{find_name}
 use Rattle.bintable.specs.Entry as B
 use Rattle.cell.specs.Item.{blank_cell}
 use Rattle.walk.specs.declared.TableData.{TableData}
+use Rattle.walk.specs.Scaled.{plain}
 use Rattle.walk.specs.Walk.{read_cell, Reply, refused}
 use Rattle.walk.specs.Step.{all_columns, listed, open_with, StepResult, cursor_step}
 use Rattle.row.specs.Owned.{own_read}
 
 -- the first cell read from a cursor on, by what opening comes to
 abbrev pub opened_weight : BinTable → List ℕ → H.Outcome → TableData → Reply
-opened_weight l a H.accepted cursor = (cursor_step l a cursor read_cell).reply
+opened_weight l a H.accepted cursor = (cursor_step l a cursor (read_cell plain)).reply
 opened_weight l a (H.refused n p) cursor = refused n p
 
 -- of the column that was found
@@ -32,4 +33,4 @@ first_weight h a = weight_by h a (B.entry h a)
 
 -- the first row, read into a list of 512 blank cells. Beside a refused table stands the empty layout, and then the row read is refused
 abbrev pub first_row : List ℕ → List ℕ → StepResult
-first_row h a = let l = B.layout_in (B.entry h a) in own_read l a (open_with l a all_columns true).cursor blank_cell 512
+first_row h a = let l = B.layout_in (B.entry h a) in own_read l a (open_with l a all_columns true).cursor plain blank_cell 512

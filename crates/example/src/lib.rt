@@ -10,7 +10,12 @@ use cell::Cell;
 use layout::EMPTY_LAYOUT;
 use refusal::Refusal;
 use row::owners::{LIST_LIMIT, RowCell};
-use walk::TableData;
+use walk::{How, Reading, TableData};
+
+// A read that hands out cells as they are stored.
+const PLAIN: How = How {
+    reading: Reading::Plain,
+};
 
 // The first cell of the first column named WEIGHT, in either case, none at the end of the table, or what refuses the
 // table, the column or the cell.
@@ -20,7 +25,7 @@ pub fn first_weight(header: &[u8], area: &[u8]) -> Result<Option<Cell>, Refusal>
     let layout = bintable::parse(header, area)?;
     let column = layout::find_field_by_ttype(header, layout, b"WEIGHT").ok_or(Refusal::NoColumn)?;
     let mut cursor = table::select_fields(layout, area, &[column], true)?;
-    row::next(&mut cursor, layout, area)
+    row::next(&mut cursor, layout, area, PLAIN)
 }
 
 // The first row read into a list of 512 cells: its answer, the cursor after it, and cell k of the list. Of a table
@@ -32,7 +37,15 @@ pub fn of_first_row(header: &[u8], area: &[u8], k: usize) -> RowCell
 {
     let layout = bintable::parse(header, area).unwrap_or(EMPTY_LAYOUT);
     let cursor = table::open(layout, area, true).unwrap_or(NO_CURSOR);
-    row::owners::row_cell(layout, area, cursor, cell::blank_cell(), LIST_LIMIT, k)
+    row::owners::row_cell(
+        layout,
+        area,
+        cursor,
+        PLAIN,
+        cell::blank_cell(),
+        LIST_LIMIT,
+        k,
+    )
 }
 
 // The cursor that belongs to no table.

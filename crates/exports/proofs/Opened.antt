@@ -13,7 +13,10 @@ use Rattle.refusal.specs.Refusal.{number_of, place_of}
 use Rattle.bintable.specs.Entry as B
 use Rattle.bintable.proofs.Kept.{entry_ok}
 use Rattle.walk.specs.declared.TableData.{TableData}
+use Rattle.walk.specs.declared.Reading.{Reading}
+use Rattle.walk.specs.declared.Reading.TheVariants.{Plain, Scaled}
 use Rattle.walk.specs.Plain.{row_entries}
+use Rattle.walk.specs.declared.Entry.{Entry}
 use Rattle.walk.specs.Walk.{start, entries_from}
 use Rattle.walk.specs.Step.{listed, fits, choice_ok, choice_of, belongs, cursor_at, cursor_left, open_with}
 use Rattle.layout.proofs.Sizes.{limits}
@@ -21,7 +24,7 @@ use Rattle.walk.proofs.Follows.{ok_start}
 use Rattle.walk.proofs.InOrder.{left_start}
 use Rattle.exports.specs.declared.Start.{Start}
 use Rattle.exports.specs.Checksum.{add_cells, with_number}
-use Rattle.exports.specs.Reads.{Reading, ended, cell_reads, Way, by_cells, by_rows, opened_reads, entry_reads, table_reads, reads_sum}
+use Rattle.exports.specs.Reads.{CellsRead, ended, cell_reads, reads_in, Way, by_cells, by_rows, opened_reads, entry_reads, table_reads, reads_sum}
 use Rattle.exports.specs.Loops.{cells_from, rows_from}
 
 -- ---- the layout
@@ -39,12 +42,17 @@ module _ (l : BinTable) (a : List ℕ) where
   start_belongs choice heap f c = rw (f, c) (ok_start (row_entries l a choice heap) l.naxis2 0 (omega arith))
 
 -- a way to read, and what it comes to from a cursor on, which at the table's start is the same
-pub record Read (way : Way) (from : BinTable → List ℕ → TableData → Reading) : Type 0 where
-  pub all : (l : BinTable) (a : List ℕ) (choice : ℕ) (heap : Bool) → belongs l a (cursor_at choice heap start) ≡ true
-      → from l a (cursor_at choice heap start) ≡ way (row_entries l a choice heap) l.naxis2
+pub record Read (way : Way) (from : BinTable → List ℕ → Reading → TableData → CellsRead) : Type 0 where
+  pub all : (l : BinTable) (a : List ℕ) (m : Reading) (choice : ℕ) (heap : Bool) → belongs l a (cursor_at choice heap start) ≡ true
+      → from l a m (cursor_at choice heap start) ≡ reads_in l m (way (row_entries l a choice heap) l.naxis2)
+
+-- no reads are none in either reading
+ended_in : (l : BinTable) (m : Reading) (n : ℕ) → ended n ≡ reads_in l m (ended n)
+ended_in l Plain n = refl
+ended_in l Scaled n = refl
 
 pub cell_reads_lem : Read by_cells cells_from
-cell_reads_lem = record { all = λ l a choice heap b. rw b (ap cell_reads (first l a choice heap)) }
+cell_reads_lem = record { all = λ l a m choice heap b. rw b (ap (λ (es : List Entry). reads_in l m (cell_reads es)) (first l a choice heap)) }
   where
     first : (l : BinTable) (a : List ℕ) (choice : ℕ) (heap : Bool)
         → cursor_left l a (cursor_at choice heap start) ≡ entries_from (row_entries l a choice heap) l.naxis2 0 l.naxis2
@@ -53,29 +61,29 @@ cell_reads_lem = record { all = λ l a choice heap b. rw b (ap cell_reads (first
         left_start (row_entries l a choice heap) l.naxis2 (l.naxis2 - 0) 0 ∙ rw e
 
 pub row_reads_lem : (m : ℕ) → Read (by_rows m) (rows_from m)
-row_reads_lem m = record { all = λ l a choice heap b. let z : l.naxis2 - 0 ≡ l.naxis2 = omega arith in rw (b, z) }
+row_reads_lem m = record { all = λ l a m choice heap b. let z : l.naxis2 - 0 ≡ l.naxis2 = omega arith in rw (b, z) }
 
-module _ (way : Way) (from : BinTable → List ℕ → TableData → Reading) (read : Read way from)
-    (a cols : List ℕ) (heap : Bool) where
+module _ (way : Way) (from : BinTable → List ℕ → Reading → TableData → CellsRead) (read : Read way from)
+    (a cols : List ℕ) (heap : Bool) (m : Reading) where
   -- reads from the cursor c on, if the checks before accept
-  abbrev read_by : H.Outcome → BinTable → TableData → Reading
-  read_by H.accepted l c = from l a c
+  abbrev read_by : H.Outcome → BinTable → TableData → CellsRead
+  read_by H.accepted l c = from l a m c
   read_by (H.refused n p) l c = ended n
 
   opened : (l : BinTable) → let o = open_with l a (listed cols) heap in
-      read_by o.outcome l o.cursor ≡ opened_reads way l a cols heap o.outcome
+      read_by o.outcome l o.cursor ≡ reads_in l m (opened_reads way l a cols heap o.outcome)
   unfolding open_with
   opened l =
       let choice = choice_of l (listed cols) in
       either (fits l a)
       (λ f.
-      either (choice_ok l choice) (λ c. rw (f, c) (read.all l a choice heap (start_belongs l a choice heap f c)))
-      (λ c. rw (f, c)))
-      (λ f. rw f)
+      either (choice_ok l choice) (λ c. rw (f, c) (read.all l a m choice heap (start_belongs l a choice heap f c)))
+      (λ c. rw (f, c) (ended_in l m 11)))
+      (λ f. rw f (ended_in l m 10))
 
   entered : (o : H.Outcome) (k : BinTable)
       → let l = B.layout_in (B.entry_by o k) in let p = open_with l a (listed cols) heap in
-      read_by (H.before o p.outcome) l p.cursor ≡ entry_reads way a cols heap (B.entry_by o k)
+      read_by (H.before o p.outcome) l p.cursor ≡ entry_reads way a cols heap m (B.entry_by o k)
   entered H.accepted k = opened k
   entered (H.refused n p) k = refl
 
@@ -85,15 +93,15 @@ module _ (way : Way) (from : BinTable → List ℕ → TableData → Reading) (r
     layout = B.layout_in (B.entry h a)
 
     table_reads_lem : (o : H.Outcome) → o ≡ H.before (B.all_checks h a) (open_with layout a (listed cols) heap).outcome
-        → read_by o layout (open_with layout a (listed cols) heap).cursor ≡ table_reads way h a cols heap
+        → read_by o layout (open_with layout a (listed cols) heap).cursor ≡ table_reads way h a cols heap m
     table_reads_lem o e = rw e (entered (B.all_checks h a) (B.layout_of h))
 
     pub sum_refused : (r : Refusal) → H.refused (number_of r) (place_of r) ≡ H.before (B.all_checks h a) (open_with layout a (listed cols) heap).outcome
-        → with_number (number_of r) 0 ≡ reads_sum (table_reads way h a cols heap)
+        → with_number (number_of r) 0 ≡ reads_sum (table_reads way h a cols heap m)
     unfolding add_cells
     sum_refused r e = ap reads_sum (table_reads_lem (H.refused (number_of r) (place_of r)) e)
 
     pub sum_passed : (s : Start) → H.accepted ≡ H.before (B.all_checks h a) (open_with layout a (listed cols) heap).outcome
         → (s.layout ≡ layout) × (s.cursor ≡ (open_with s.layout a (listed cols) heap).cursor)
-        → reads_sum (from s.layout a s.cursor) ≡ reads_sum (table_reads way h a cols heap)
+        → reads_sum (from s.layout a m s.cursor) ≡ reads_sum (table_reads way h a cols heap m)
     sum_passed s e f = ap reads_sum (rw (f.1, f.0) (table_reads_lem H.accepted e))

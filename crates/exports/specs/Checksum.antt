@@ -42,6 +42,7 @@ words (D.UnsignedByte b) = b ∷ []
 words (D.Short n) = of_z w16 n ∷ []
 words (D.Integer n) = of_z w32 n ∷ []
 words (D.Long n) = two (of_z w64 n)
+words (D.UnsignedLong n) = two n
 words (D.Character b) = b ∷ []
 words (D.Float v bits) = bits ∷ []
 words (D.Double v bits) = two bits

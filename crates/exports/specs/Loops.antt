@@ -5,26 +5,28 @@ use Rattle.refusal.specs.declared.Refusal.{Refusal}
 use Rattle.refusal.specs.Refusal.{number_of}
 use Rattle.layout.specs.declared.BinTable.{BinTable}
 use Rattle.walk.specs.declared.TableData.{TableData}
+use Rattle.walk.specs.declared.Reading.{Reading}
 use Rattle.walk.specs.Plain.{row_entries}
 use Rattle.walk.specs.Walk.{Reply, got_cell, got_row, sought, at_end, refused}
 use Rattle.walk.specs.Step.{belongs, cursor_left}
 use Rattle.exports.specs.Checksum.{add_cells, with_number}
-use Rattle.exports.specs.Reads.{Reading, ended, cell_reads, row_reads}
+use Rattle.exports.specs.Reads.{CellsRead, ended, cell_reads, row_reads, reads_in}
 
--- ---- reads from a cursor on: a 10, if it does not belong
+-- ---- reads from a cursor on, in a reading: a 10, if it does not belong
 
-abbrev pub cells_from : BinTable → List ℕ → TableData → Reading
-cells_from l a c = cond (belongs l a c) (cell_reads (cursor_left l a c)) (ended 10)
+abbrev pub cells_from : BinTable → List ℕ → Reading → TableData → CellsRead
+cells_from l a m c = reads_in l m (cond (belongs l a c) (cell_reads (cursor_left l a c)) (ended 10))
 
-abbrev pub rows_from : ℕ → BinTable → List ℕ → TableData → Reading
-rows_from m l a c =
-    cond (belongs l a c) (row_reads m (row_entries l a c.choice c.heap) (l.naxis2 - c.row) c.row c.passed) (ended 10)
+abbrev pub rows_from : ℕ → BinTable → List ℕ → Reading → TableData → CellsRead
+rows_from n l a m c =
+    reads_in l m
+    (cond (belongs l a c) (row_reads n (row_entries l a c.choice c.heap) (l.naxis2 - c.row) c.row c.passed) (ended 10))
 
 -- what a sum so far returns with them
-abbrev pub sum_then : ℕ → Reading → ℕ
+abbrev pub sum_then : ℕ → CellsRead → ℕ
 sum_then s o = with_number o.number (add_cells s o.cells)
 
--- ---- by an answer: the number of a refusal, 0 for any other; the cells that a row read stored; whether it stored a row
+-- ---- by an answer: the number of a refusal, 0 for any other; whether a row read stored a row
 
 abbrev pub number_by : Reply → ℕ
 number_by (got_cell c) = 0
@@ -32,13 +34,6 @@ number_by (got_row k) = 0
 number_by sought = 0
 number_by at_end = 0
 number_by (refused n p) = n
-
-abbrev pub stored_by : Reply → ℕ
-stored_by (got_cell c) = 0
-stored_by (got_row k) = k
-stored_by sought = 0
-stored_by at_end = 0
-stored_by (refused n p) = 0
 
 abbrev pub row_by : Reply → Bool
 row_by (got_cell c) = false

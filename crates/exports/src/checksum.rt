@@ -47,6 +47,7 @@ fn add_value(sum: u32, value: DataValue) -> u32
         DataValue::Short(n) => add_word(sum, n.cast_unsigned() as u64),
         DataValue::Integer(n) => add_word(sum, n.cast_unsigned() as u64),
         DataValue::Long(n) => add_two(sum, n.cast_unsigned()),
+        DataValue::UnsignedLong(n) => add_two(sum, n),
         DataValue::Float { bits, .. } => add_word(sum, bits as u64),
         DataValue::Double { bits, .. } => add_two(sum, bits),
         DataValue::ComplexFloat {

@@ -20,12 +20,13 @@ ghost use Rattle.output.specs.Page.{page_text};
 ghost use Rattle.exports.specs.declared.Start.{Start};
 ghost use Rattle.exports.specs.Checksum.{entry_sum};
 ghost use Rattle.exports.specs.Reads.{by_cells, by_rows, list_length, table_reads, reads_sum};
+ghost use Rattle.walk.specs.Readings.{reading_by};
 ghost use Rattle.exports.specs.Turning.{turn_number, turn_buffer, turn_back_buffer};
 ghost use Rattle.exports.specs.Page.{page_number, page_buffer};
 
 use layout::BinTable;
 use refusal::Refusal;
-use walk::TableData;
+use walk::{How, Reading, TableData};
 
 // A table and the cursor on it.
 #[derive(Clone, Copy)]
@@ -49,42 +50,78 @@ fn open_table(header: &[u8], area: &[u8], cols: &[usize], heap: bool) -> Result<
 
 // The sum of the cells that cell reads of the chosen columns hand out, with the cursor by value
 // or lent.
-fn sum_table<const LENT: bool>(header: &[u8], area: &[u8], cols: &[usize], heap: bool) -> u64
-    ensures { result ≡ reads_sum (table_reads by_cells header.now area.now cols.now heap) }
+fn sum_table<const LENT: bool>(
+    header: &[u8],
+    area: &[u8],
+    cols: &[usize],
+    heap: bool,
+    how: How,
+) -> u64
+    ensures { result ≡ reads_sum (table_reads by_cells header.now area.now cols.now heap how.reading) }
 {
     match open_table(header, area, cols, heap) {
-        Ok(Start { layout, cursor }) => cells::sum_cells::<LENT>(layout, area, cursor),
+        Ok(Start { layout, cursor }) => cells::sum_cells::<LENT>(layout, area, cursor, how),
         Err(refusal) => refusals::refused(0, refusal),
     }
 }
 
+// A read in the reading that a caller names: the second one where it is `scaled`.
+fn how_by(scaled: bool) -> How
+    ensures { result.reading ≡ reading_by scaled }
+{
+    let reading = if scaled {
+        Reading::Scaled
+    } else {
+        Reading::Plain
+    };
+    How { reading }
+}
+
 // The checksum of the cells that cell reads of the chosen columns hand out, with the cursor by value.
 #[unsafe(no_mangle)]
-pub extern "C" fn coentrift_sum_cells(header: &[u8], area: &[u8], cols: &[usize], heap: bool) -> u64
+pub extern "C" fn coentrift_sum_cells(
+    header: &[u8],
+    area: &[u8],
+    cols: &[usize],
+    heap: bool,
+    scaled: bool,
+) -> u64
     ensures { result
-        ≡ reads_sum (table_reads by_cells header.now area.now cols.now heap) }
+        ≡ reads_sum (table_reads by_cells header.now area.now cols.now heap (reading_by scaled)) }
 {
-    sum_table::<false>(header, area, cols, heap)
+    sum_table::<false>(header, area, cols, heap, how_by(scaled))
 }
 
 // The same, with the cursor lent.
 #[unsafe(no_mangle)]
-pub extern "C" fn coentrift_sum_lent(header: &[u8], area: &[u8], cols: &[usize], heap: bool) -> u64
+pub extern "C" fn coentrift_sum_lent(
+    header: &[u8],
+    area: &[u8],
+    cols: &[usize],
+    heap: bool,
+    scaled: bool,
+) -> u64
     ensures { result
-        ≡ reads_sum (table_reads by_cells header.now area.now cols.now heap) }
+        ≡ reads_sum (table_reads by_cells header.now area.now cols.now heap (reading_by scaled)) }
 {
-    sum_table::<true>(header, area, cols, heap)
+    sum_table::<true>(header, area, cols, heap, how_by(scaled))
 }
 
 // The checksum of the cells that row reads store. One list of 512 cells is lent to all; a row with more is refused. It
 // is another way to read, with another contract, so its match is its own.
 #[unsafe(no_mangle)]
-pub extern "C" fn coentrift_sum_rows(header: &[u8], area: &[u8], cols: &[usize], heap: bool) -> u64
+pub extern "C" fn coentrift_sum_rows(
+    header: &[u8],
+    area: &[u8],
+    cols: &[usize],
+    heap: bool,
+    scaled: bool,
+) -> u64
     ensures { result
-        ≡ reads_sum (table_reads (by_rows list_length) header.now area.now cols.now heap) }
+        ≡ reads_sum (table_reads (by_rows list_length) header.now area.now cols.now heap (reading_by scaled)) }
 {
     match open_table(header, area, cols, heap) {
-        Ok(Start { layout, cursor }) => rows::sum_rows(layout, area, cursor),
+        Ok(Start { layout, cursor }) => rows::sum_rows(layout, area, cursor, how_by(scaled)),
         Err(refusal) => refusals::refused(0, refusal),
     }
 }

@@ -8,7 +8,7 @@ use super::{checksum, refusals};
 use cell::Cell;
 use layout::BinTable;
 use row::owners::LIST_LIMIT;
-use walk::TableData;
+use walk::{How, TableData};
 
 // The first n cells of a list.
 #[tactic(auto, using(crate::proofs::Sums::cells_folded))]
@@ -23,13 +23,13 @@ fn add_front(list: &[Cell], n: usize, sum: u32) -> u32
 
 // The rows from a cursor on, up to the first that is not read.
 #[tactic(auto, using(crate::proofs::RowReads::row_stored, crate::proofs::RowReads::row_added))]
-fn add_rows(list: &mut [Cell], layout: BinTable, area: &[u8], cursor: TableData) -> u64
-    ensures { result ≡ reads_sum (rows_from (length list.old) layout area.now cursor) }
+fn add_rows(list: &mut [Cell], layout: BinTable, area: &[u8], cursor: TableData, how: How) -> u64
+    ensures { result ≡ reads_sum (rows_from (length list.old) layout area.now how.reading cursor) }
 {
     let mut sum: u32 = 0;
     let mut current = cursor;
     loop {
-        let stepped = row::read_row(layout, area, current, list);
+        let stepped = row::read_row(layout, area, current, how, list);
         let Ok(Some(n)) = stepped.answer else {
             return refusals::ended(sum, stepped.answer);
         };
@@ -38,9 +38,9 @@ fn add_rows(list: &mut [Cell], layout: BinTable, area: &[u8], cursor: TableData)
     }
 }
 
-pub fn sum_rows(layout: BinTable, area: &[u8], cursor: TableData) -> u64
-    ensures { result ≡ reads_sum (rows_from list_length layout area.now cursor) }
+pub fn sum_rows(layout: BinTable, area: &[u8], cursor: TableData, how: How) -> u64
+    ensures { result ≡ reads_sum (rows_from list_length layout area.now how.reading cursor) }
 {
     let mut list = [cell::blank_cell(); LIST_LIMIT];
-    add_rows(&mut list, layout, area, cursor)
+    add_rows(&mut list, layout, area, cursor, how)
 }

@@ -11,10 +11,10 @@ use Rattle.keyword.specs.Names.{slot_names}
 use Rattle.header.specs.Records.{records, has_end, names}
 use Rattle.refusal.specs.Refusal.{accepted}
 use Rattle.header.specs.Checks.{bad_length, check1, check2, checked, names_read}
-use Rattle.header.specs.Checks.{record_of, records_of, no_entry, index_by, first_at}
+use Rattle.header.specs.Checks.{record_of, second_of, records_of, no_entry, index_by, first_at, second_at}
 use Rattle.keyword.proofs.Position.{map_at}
 
--- an index gives for a slot the records of the slot's name, and so the first
+-- an index gives for a slot the records of the slot's name, the first and the second
 module _ (h : List ℕ) (s : ℕ) (p : s < length slot_names) where
   pub slot_place : get_or (index_by h) s no_entry ≡ records_of h (get_or slot_names s [])
   unfolding index_by
@@ -22,6 +22,9 @@ module _ (h : List ℕ) (s : ℕ) (p : s < length slot_names) where
 
   pub slot_first : first_at (index_by h) s ≡ record_of h (get_or slot_names s [])
   slot_first = ap (λ (e : Entry). e.first) slot_place
+
+  pub slot_second : second_at (index_by h) s ≡ second_of h (get_or slot_names s [])
+  slot_second = ap (λ (e : Entry). e.second) slot_place
 
 module _ (h : List ℕ) (e : checked h ≡ accepted) where
   pub accepted_length : bad_length h ≡ false

@@ -53,6 +53,9 @@ no_entry = record { first = None; second = None }
 unfoldable pub index_by : List ℕ → List Entry
 index_by h = map (records_of h) slot_names
 
--- the first record that an index gives for a slot
+-- the first record that an index gives for a slot, and the second
 abbrev pub first_at : List Entry → ℕ → Option ℕ
 first_at index s = (get_or index s no_entry).first
+
+abbrev pub second_at : List Entry → ℕ → Option ℕ
+second_at index s = (get_or index s no_entry).second

@@ -6,7 +6,7 @@ mod records;
 ghost use Rattle.std.specs.Prelude.{◌≡◌};
 ghost use Rattle.header.specs.Records.{header_len, header_of, data_of};
 ghost use Rattle.refusal.specs.Refusal.{outcome_of};
-ghost use Rattle.header.specs.Checks.{bad_length, checked, first_at, index_by};
+ghost use Rattle.header.specs.Checks.{bad_length, checked, first_at, second_at, index_by};
 
 use card::RECORD_BYTES;
 use keyword::SLOTS;
@@ -38,6 +38,13 @@ pub fn record_of(index: &[Entry], slot: usize) -> Option<usize>
     ensures { result ≡ first_at index.now slot }
 {
     Some(index.get(slot)?.first? as usize)
+}
+
+// The second one.
+pub fn second_of(index: &[Entry], slot: usize) -> Option<usize>
+    ensures { result ≡ second_at index.now slot }
+{
+    Some(index.get(slot)?.second? as usize)
 }
 
 #[tactic(auto, unfolding(crate::specs::Checks::bad_length))]

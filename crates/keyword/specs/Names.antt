@@ -55,7 +55,7 @@ unfoldable pub once_roots : List (List ℕ)
 once_roots = bytes "TFORM" ∷ bytes "TTYPE" ∷ []
 
 unfoldable pub other_roots : List (List ℕ)
-other_roots = []
+other_roots = bytes "TSCAL" ∷ bytes "TZERO" ∷ []
 
 abbrev pub roots : List (List ℕ)
 roots = once_roots ++ other_roots
@@ -64,6 +64,8 @@ roots = once_roots ++ other_roots
 abbrev pub root_text : Root → List ℕ
 root_text R.Tform = bytes "TFORM"
 root_text R.Ttype = bytes "TTYPE"
+root_text R.Tscal = bytes "TSCAL"
+root_text R.Tzero = bytes "TZERO"
 
 -- the single names, and these roots with each n up to `count`
 abbrev pub names_up_to : ℕ → List (List ℕ) → List (List ℕ)

@@ -70,7 +70,7 @@ const SINGLE_NAMES: [&[u8]; SINGLE] = [
 ];
 
 // The texts of the roots of the numbered names, and how long each is.
-const ROOTS: [&[u8]; 2] = [b"TFORM", b"TTYPE"];
+const ROOTS: [&[u8]; 4] = [b"TFORM", b"TTYPE", b"TSCAL", b"TZERO"];
 
 const ROOT_BYTES: usize = 5;
 
@@ -79,6 +79,8 @@ const ROOT_BYTES: usize = 5;
 pub enum Root {
     Tform,
     Ttype,
+    Tscal,
+    Tzero,
 }
 
 impl Root {
@@ -93,7 +95,7 @@ impl Root {
 }
 
 // How many slots there are.
-pub const SLOTS: usize = SINGLE + 2 * COLUMN_SLOTS;
+pub const SLOTS: usize = SINGLE + ROOTS.len() * COLUMN_SLOTS;
 
 // How many roots, from the front, have names that must not stand twice, and how many such names there are.
 const ONCE_ROOTS: usize = 2;

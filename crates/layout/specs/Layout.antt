@@ -1,10 +1,12 @@
 -- The layout of a table, and the limits and sums that it keeps (FORMAT.md, section 8; the standard, 7.3.1, 7.3.2 and 7.3.5).
 -- Assumes nothing.
-use Rattle.std.specs.Prelude.{ℕ, ◌+◌, ◌*◌, List, [], ◌∷◌, Bool, ◌&&◌, take, replicate, eqb, leb, None}
+use Rattle.std.specs.Prelude.{ℕ, ◌+◌, ◌*◌, List, [], ◌∷◌, Bool, false, ◌&&◌, take, replicate, eqb, leb, pos, None}
+use Rattle.std.specs.Float.{nan, fin}
 use Rattle.keyword.specs.Names.{column_slots}
 use Rattle.tform.specs.declared.VariableArrayTy.TheVariants.{L}
 use Rattle.tform.specs.declared.TFormType.TheVariants.{Items}
 use Rattle.tform.specs.Width.{field_bytes, count_ok}
+use Rattle.layout.specs.declared.Scaling.{Scaling}
 use Rattle.layout.specs.declared.Column.{Column}
 use Rattle.layout.specs.declared.BinTable.{BinTable}
 
@@ -25,9 +27,13 @@ tfields_limit = column_slots
 abbrev pub data_limit : ℕ
 data_limit = naxis1_limit * naxis2_limit + pcount_limit
 
--- what stands in the array of columns where there is none
+-- the scaling of a column without TSCALn and TZEROn: the factor 1 and the zero 0
+abbrev pub no_scaling : Scaling
+no_scaling = record { factor = fin false 1 (pos 0); zero = fin false 0 (pos 0) }
+
+-- what stands in the array of columns where there is none. No step uses its scaling
 abbrev pub no_column : Column
-no_column = record { form = Items L; count = 0; start = 0; name = None }
+no_column = record { form = Items L; count = 0; start = 0; name = None; scaling_given = false; scaling = record { factor = nan; zero = nan } }
 
 -- the layout beside a refusal
 abbrev pub empty_layout : BinTable

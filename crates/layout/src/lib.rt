@@ -28,13 +28,23 @@ pub struct Name {
     pub len: u32,
 }
 
-// `count` is the number before the form's letter, `start` the column's first byte within a row.
+// The factor (TSCALn) and the zero (TZEROn) of a column's scaled values.
+#[derive(Clone, Copy)]
+pub struct Scaling {
+    pub factor: f64,
+    pub zero: f64,
+}
+
+// `count` is the number before the form's letter, `start` the column's first byte within a row. `scaling_given` tells
+// whether TSCALn or TZEROn stands in the header: a column with neither has a scaling too.
 #[derive(Clone, Copy)]
 pub struct Column {
     pub form: TFormType,
     pub count: u32,
     pub start: u64,
     pub name: Option<Name>,
+    pub scaling_given: bool,
+    pub scaling: Scaling,
 }
 
 // The layout of a table. Its columns are the first `tfields` of `columns`, since the library has no heap.
@@ -48,12 +58,24 @@ pub struct BinTable {
     pub columns: [Column; TFIELDS_LIMIT],
 }
 
-// No column, and the layout that has none.
+// The scaling of a column with neither keyword.
+pub const NO_SCALING: Scaling = Scaling {
+    factor: 1.0,
+    zero: 0.0,
+};
+
+// No column, and the layout that has none. Its scaling is that of the list's default element, in which floats are no
+// numbers.
 pub const NO_COLUMN: Column = Column {
     form: TFormType::Items(VariableArrayTy::L),
     count: 0,
     start: 0,
     name: None,
+    scaling_given: false,
+    scaling: Scaling {
+        factor: f64::NAN,
+        zero: f64::NAN,
+    },
 };
 
 pub const EMPTY_LAYOUT: BinTable = BinTable {

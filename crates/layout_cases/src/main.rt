@@ -11,7 +11,7 @@ ghost use Rattle.std.specs.Iterator.{at_most};
 
 use case_file::Case;
 use layout::{BinTable, Column, EMPTY_LAYOUT, TFIELDS_LIMIT};
-use shown::{Bytes, Form, Place, Stretch};
+use shown::{Bytes, Factors, Form, Place, Stretch};
 use std::{fs, io};
 
 // The longest data area of a case.
@@ -71,7 +71,12 @@ fn print_column(rt: &impl Print, number: usize, column: &Column) -> io::Result<(
         "column {number} {form} {} at {} bytes {bytes}",
         column.count, column.start
     )?;
-    println!(rt; " {}", Stretch(column.name))
+    print!(rt; " {}", Stretch(column.name))?;
+    // The scaling of a column with neither keyword is seen in what it reads.
+    if column.scaling_given {
+        print!(rt; "{}", Factors(column.scaling))?;
+    }
+    println!(rt; "")
 }
 
 #[derive(Clone, Copy)]

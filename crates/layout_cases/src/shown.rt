@@ -1,6 +1,6 @@
-// What is printed of a form, a name, a column that was found, and a stretch of bytes.
-use layout::Name;
-use std::fmt;
+// What is printed of a form, a name, a scaling, a column that was found, and a stretch of bytes.
+use layout::{Name, Scaling};
+use std::{fmt, num};
 use tform::TFormType;
 
 // The form's letter, after that of its descriptor.
@@ -27,6 +27,19 @@ impl fmt::Display for Stretch {
             None => write!(f, "missing"),
             Some(Name { start, len }) => write!(f, "stretch {start} {len}"),
         }
+    }
+}
+
+// The factor and the zero, as the bits of the doubles.
+#[derive(Clone, Copy)]
+pub struct Factors(pub Scaling);
+
+impl fmt::Display for Factors {
+    fn fmt<W: fmt::Write>(&self, f: &mut fmt::Formatter<W>) -> fmt::Result {
+        let Factors(Scaling { factor, zero }) = *self;
+        let factor = num::f64_to_bits_with_nan(factor);
+        let zero = num::f64_to_bits_with_nan(zero);
+        write!(f, " factor {factor} zero {zero}")
     }
 }
 

@@ -42,6 +42,7 @@ value_text (D.UnsignedByte b) = decimal_text b
 value_text (D.Short z) = signed_text z
 value_text (D.Integer z) = signed_text z
 value_text (D.Long z) = signed_text z
+value_text (D.UnsignedLong n) = decimal_text n
 value_text (D.Character b) = decimal_text b
 value_text (D.Float v b) = hex_text 8 b
 value_text (D.Double v b) = hex_text 16 b

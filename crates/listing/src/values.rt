@@ -56,6 +56,7 @@ impl Writer {
             DataValue::Short(number) => self.put_signed(number as i64),
             DataValue::Integer(number) => self.put_signed(number as i64),
             DataValue::Long(number) => self.put_signed(number),
+            DataValue::UnsignedLong(number) => self.put_number(number),
             DataValue::Float { bits, .. } => self.put_hex(bits as u64, 8),
             DataValue::Double { bits, .. } => self.put_hex(bits, 16),
             DataValue::ComplexFloat {

@@ -72,8 +72,8 @@ set_by : (s : List ℕ) (t u : Settings) (y : Says) (n : ℕ) → says (line_at 
 set_by s t u choose_all n e f = let q = same_Some u _ f in record { setting = refl; value = rw q; place = rw q }
 set_by s t u (choose is) n e f = let q = same_Some u _ f in record { setting = refl; value = rw (q, e); place = rw q }
 set_by s t u (heap on) n e f = let q = same_Some u _ f in record { setting = refl; value = rw q; place = rw q }
-set_by s t u cell n e f = absurd (none-some u (sym f))
-set_by s t u (row m) n e f = absurd (none-some u (sym f))
+set_by s t u (cell how) n e f = absurd (none-some u (sym f))
+set_by s t u (row how m) n e f = absurd (none-some u (sym f))
 set_by s t u (S.seek r) n e f = absurd (none-some u (sym f))
 set_by s t u bad n e f = absurd (none-some u (sym f))
 
@@ -81,8 +81,8 @@ over_by : (t : Settings) (y : Says) (n : ℕ) → None ≡ changed t (command_of
 over_by t choose_all n f = cc
 over_by t (choose is) n f = cc
 over_by t (heap on) n f = cc
-over_by t cell n f = refl
-over_by t (row m) n f = refl
+over_by t (cell how) n f = refl
+over_by t (row how m) n f = refl
 over_by t (S.seek r) n f = refl
 over_by t bad n f = refl
 

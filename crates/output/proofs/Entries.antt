@@ -17,6 +17,7 @@ use Rattle.walk.specs.declared.TableData.{TableData}
 use Rattle.walk.specs.declared.Entry.{Entry}
 use Rattle.walk.specs.declared.Stepped.{Stepped}
 use Rattle.walk.specs.Plain.{row_entries}
+use Rattle.walk.specs.Scaled.{plain}
 use Rattle.walk.specs.Walk.{read_cell, start, refused}
 use Rattle.walk.specs.Step.{fits, choice_ok, belongs, all_columns, choice_of, Opening, open_with, opened, cursor_at, cursor_left, StepResult, cursor_step, cell_reply, cell_result, opening_of}
 use Rattle.walk.proofs.Follows.{ok_start}
@@ -48,11 +49,11 @@ module _ (h : List ℕ) (l : BinTable) (a s : List ℕ) where
       let p : place_of q ≡ 0 = cc in
       rw (n, p)
 
-  pub cells_read : (c : TableData) (r : Stepped (Option Cell)) → cell_result r.cursor r.answer ≡ cursor_step l a c read_cell → cell_lines r.answer r.cursor ≡ left h l a s (S.Cells c)
+  pub cells_read : (c : TableData) (r : Stepped (Option Cell)) → cell_result r.cursor r.answer ≡ cursor_step l a c (read_cell plain) → cell_lines r.answer r.cursor ≡ left h l a s (S.Cells c)
   cells_read c r told =
       either (belongs l a c)
       (λ t. rw t (read_lines c (cursor_left l a c) r.answer r.cursor (rw (← told) at (read_left l a c t))))
-      (λ t. rw t (ten_lines r.answer r.cursor (ap (λ (o : StepResult). o.reply) (told ∙ step_unfit l a c read_cell t))))
+      (λ t. rw t (ten_lines r.answer r.cursor (ap (λ (o : StepResult). o.reply) (told ∙ step_unfit l a c (read_cell plain) t))))
 
   -- the lines by what an opening returned
   abbrev open_lines : Result TableData Refusal → List (List ℕ)

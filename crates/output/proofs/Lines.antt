@@ -18,6 +18,9 @@ use Rattle.cell.specs.Item.{blank_cell}
 use Rattle.walk.specs.declared.TableData.{TableData}
 use Rattle.walk.specs.declared.Entry.{Entry}
 use Rattle.walk.specs.declared.Stepped.{Stepped}
+use Rattle.walk.specs.declared.How.{How}
+use Rattle.walk.specs.Readings.{stored_by}
+use Rattle.walk.proofs.Answers.{stored_inside}
 use Rattle.walk.specs.Walk.{read_cell, read_row, seek, Gathered, all_cells, outside, rest, row_outcome, walk_step}
 use Rattle.walk.specs.Plain.{row_entries}
 use Rattle.walk.specs.Step.{belongs, state_of, StepResult, cursor_step, cell_reply, row_reply, seek_reply, cell_result, row_result, seek_result}
@@ -33,7 +36,7 @@ use Rattle.steps.specs.Line as S
 use Rattle.steps.proofs.Lines.{line_length, lines_next, lines_none, feeds_next}
 use Rattle.output.specs.declared.State.TheVariants as T
 use Rattle.output.specs.Replay.{Asked, step, none, asked, answer_lines, result_lines, line_by, step_lines}
-use Rattle.output.specs.State.{steps_from, stored_by, left, next_lines}
+use Rattle.output.specs.State.{steps_from, left, next_lines}
 use Rattle.output.specs.Next.{cell_next, seek_next, row_next}
 
 -- ---- lines of the file
@@ -52,8 +55,8 @@ abbrev pub asked_of : Option Command → Asked
 asked_of (Some C.ChooseAll) = none
 asked_of (Some C.Choose) = none
 asked_of (Some (C.Heap on)) = none
-asked_of (Some C.Cell) = step read_cell
-asked_of (Some (C.Row n)) = step (read_row (replicate n blank_cell))
+asked_of (Some (C.Cell how)) = step (read_cell how)
+asked_of (Some (C.Row how n)) = step (read_row how (replicate n blank_cell))
 asked_of (Some (C.Seek r)) = step (seek r)
 asked_of None = none
 
@@ -61,8 +64,8 @@ asked_command : (y : S.Says) → asked y ≡ asked_of (command_of y)
 asked_command S.choose_all = refl
 asked_command (S.choose is) = refl
 asked_command (S.heap on) = refl
-asked_command S.cell = refl
-asked_command (S.row n) = refl
+asked_command (S.cell how) = refl
+asked_command (S.row how n) = refl
 asked_command (S.seek r) = refl
 asked_command S.bad = refl
 
@@ -112,15 +115,15 @@ cells_next list m k b i =
 
 module _ (h : List ℕ) (l : BinTable) (a s : List ℕ) (at : ℕ) where
   -- a step with no list: with the answer comes the line after it
-  by_cell : (y : Result (Option Cell) Refusal) (d : TableData)
-      → next_lines h l a s (Some (cell_next y at d)) ≡ answer_lines read_cell (cell_reply y) [] ++ (at_line d ∷ steps_from l a s at d)
-  by_cell (Ok (Some c)) d = refl
-  by_cell (Ok None) d = refl
-  by_cell (Err q) d = refl
+  by_cell : (how : How) (y : Result (Option Cell) Refusal) (d : TableData)
+      → next_lines h l a s (Some (cell_next y at d)) ≡ answer_lines (read_cell how) (cell_reply y) [] ++ (at_line d ∷ steps_from l a s at d)
+  by_cell how (Ok (Some c)) d = refl
+  by_cell how (Ok None) d = refl
+  by_cell how (Err q) d = refl
 
-  pub cell_next_lem : (c : TableData) (r : Stepped (Option Cell)) → cell_result r.cursor r.answer ≡ cursor_step l a c read_cell
-      → next_lines h l a s (Some (cell_next r.answer at r.cursor)) ≡ result_lines read_cell (cursor_step l a c read_cell) (steps_from l a s at)
-  cell_next_lem c r e = rw (← e) (by_cell r.answer r.cursor)
+  pub cell_next_lem : (c : TableData) (how : How) (r : Stepped (Option Cell)) → cell_result r.cursor r.answer ≡ cursor_step l a c (read_cell how)
+      → next_lines h l a s (Some (cell_next r.answer at r.cursor)) ≡ result_lines (read_cell how) (cursor_step l a c (read_cell how)) (steps_from l a s at)
+  cell_next_lem c how r e = rw (← e) (by_cell how r.answer r.cursor)
 
   by_seek : (k : ℕ) (y : Result Unit Refusal) (d : TableData)
       → next_lines h l a s (Some (seek_next y k at d)) ≡ answer_lines (seek k) (seek_reply y) [] ++ (at_line d ∷ steps_from l a s at d)
@@ -133,60 +136,41 @@ module _ (h : List ℕ) (l : BinTable) (a s : List ℕ) (at : ℕ) where
 
   -- ---- row reads
 
-  by_row : (c : TableData) (n : ℕ) (y : Result (Option ℕ) Refusal) (d : TableData)
-      → let o = own_read l a c blank_cell n in row_reply y ≡ o.reply → d ≡ o.cursor
-      → next_lines h l a s (Some (row_next y at c n d)) ≡ result_lines (read_row (own_list blank_cell n)) o (steps_from l a s at)
-  by_row c n (Ok (Some k)) d e q = rw (← e)
-  by_row c n (Ok None) d e q = rw (← e, q)
-  by_row c n (Err x) d e q = rw (← e, q)
+  by_row : (c : TableData) (how : How) (n : ℕ) (y : Result (Option ℕ) Refusal) (d : TableData)
+      → let o = own_read l a c how blank_cell n in row_reply y ≡ o.reply → d ≡ o.cursor
+      → next_lines h l a s (Some (row_next y at c how n d)) ≡ result_lines (read_row how (own_list blank_cell n)) o (steps_from l a s at)
+  by_row c how n (Ok (Some k)) d e q = rw (← e)
+  by_row c how n (Ok None) d e q = rw (← e, q)
+  by_row c how n (Err x) d e q = rw (← e, q)
 
   -- a row read into a list of n cells
-  pub row_next_lem : (c : TableData) (n : ℕ) (r : Stepped (Option ℕ)) → n ≤ 512
-      → row_result r.cursor r.answer (own_read l a c blank_cell n).list ≡ own_read l a c blank_cell n
-      → let x = read_row (replicate n blank_cell) in
-      next_lines h l a s (Some (row_next r.answer at c n r.cursor)) ≡ result_lines x (cursor_step l a c x) (steps_from l a s at)
-  row_next_lem c n r k e =
+  pub row_next_lem : (c : TableData) (how : How) (n : ℕ) (r : Stepped (Option ℕ)) → n ≤ 512
+      → row_result r.cursor r.answer (own_read l a c how blank_cell n).list ≡ own_read l a c how blank_cell n
+      → let x = read_row how (replicate n blank_cell) in
+      next_lines h l a s (Some (row_next r.answer at c how n r.cursor)) ≡ result_lines x (cursor_step l a c x) (steps_from l a s at)
+  row_next_lem c how n r k e =
       let q : min n 512 ≡ n = omega arith in
-      rw q at (by_row c n r.answer r.cursor (ap (λ (o : StepResult). o.reply) e) (ap (λ (o : StepResult). o.cursor) e))
+      rw q at (by_row c how n r.answer r.cursor (ap (λ (o : StepResult). o.reply) e) (ap (λ (o : StepResult). o.cursor) e))
 
   -- ---- the cells of a row read
 
-  -- what it stored lies within the list
-  by_gathered : (c : TableData) (list : List Cell) (rows : ℕ → List Entry) (g : Gathered)
-      → let o = row_outcome rows l.naxis2 (state_of c) list g in stored_by o.reply ≤ length o.list
-  by_gathered c list rows (outside j) = omega arith
-  by_gathered c list rows (all_cells cs) =
-      either (leb (length cs) (length list)) (λ b. rw b (omega (arith, length-append cs (drop (length cs) list))))
-      (λ b. rw b (omega arith))
-
-  stored_inside : (c : TableData) (list : List Cell)
-      → let o = cursor_step l a c (read_row list) in stored_by o.reply ≤ length o.list
-  unfolding cursor_step walk_step
-  stored_inside c list =
-      let rows = row_entries l a c.choice c.heap in
-      either (belongs l a c)
-      (λ f.
-      either (ltb c.row l.naxis2) (λ t. rw (f, t) (by_gathered c list rows (rest rows l.naxis2 (state_of c))))
-      (λ t. rw (f, t) (omega arith)))
-      (λ f. rw f (omega arith))
-
-  module _ (c : TableData) (n k : ℕ) (r : RowCell)
-      (e : row_result r.stepped.cursor r.stepped.answer (own_read l a c blank_cell n).list ≡ own_read l a c blank_cell n) where
+  module _ (c : TableData) (how : How) (n k : ℕ) (r : RowCell)
+      (e : row_result r.stepped.cursor r.stepped.answer (own_read l a c how blank_cell n).list ≡ own_read l a c how blank_cell n) where
     -- the next one
-    pub listed_next : r.cell ≡ get_or (own_read l a c blank_cell n).list k blank_cell
+    pub listed_next : r.cell ≡ get_or (own_read l a c how blank_cell n).list k blank_cell
         → k < stored_by (row_reply r.stepped.answer)
-        → next_lines h l a s (Some (record { line = L.Cell r.cell; state = T.Listed at c n (k + 1) })) ≡ left h l a s (T.Listed at c n k)
+        → next_lines h l a s (Some (record { line = L.Cell r.cell; state = T.Listed at c how n (k + 1) })) ≡ left h l a s (T.Listed at c how n k)
     listed_next f b =
-        let o = own_read l a c blank_cell n in
+        let o = own_read l a c how blank_cell n in
         let m : row_reply r.stepped.answer ≡ o.reply = ap (λ (x : StepResult). x.reply) e in
-        rw (cells_next o.list (stored_by o.reply) k (rw m at b) (stored_inside c (own_list blank_cell n)), f)
+        rw (cells_next o.list (stored_by o.reply) k (rw m at b) (stored_inside l a c (read_row how (own_list blank_cell n))), f)
 
     -- after the last one
     pub listed_over : stored_by (row_reply r.stepped.answer) ≤ k
         → next_lines h l a s (Some (record { line = L.At r.stepped.cursor; state = T.Step at r.stepped.cursor }))
-        ≡ left h l a s (T.Listed at c n k)
+        ≡ left h l a s (T.Listed at c how n k)
     listed_over b =
-        let o = own_read l a c blank_cell n in
+        let o = own_read l a c how blank_cell n in
         let m : row_reply r.stepped.answer ≡ o.reply = ap (λ (x : StepResult). x.reply) e in
         let d : r.stepped.cursor ≡ o.cursor = ap (λ (x : StepResult). x.cursor) e in
         let cells = take (stored_by o.reply) o.list in

@@ -4,6 +4,7 @@ use Rattle.std.specs.Prelude.{ℕ, List, Option, Some, None, Result, Ok, Err}
 use Rattle.refusal.specs.declared.Refusal.{Refusal}
 use Rattle.cell.specs.declared.Cell.{Cell}
 use Rattle.walk.specs.declared.TableData.{TableData}
+use Rattle.walk.specs.declared.How.{How}
 use Rattle.listing.specs.declared.Line.{Line}
 use Rattle.listing.specs.declared.Line.TheVariants as L
 use Rattle.output.specs.declared.Parts.{Parts}
@@ -40,8 +41,8 @@ abbrev pub seek_next : Result Unit Refusal → ℕ → ℕ → TableData → Nex
 seek_next (Ok x) row at d = answered (L.Seek row) at d
 seek_next (Err q) row at d = answered (L.Refused q) at d
 
--- that of a row read by cursor c into a list of n cells: after the count come the cells of the list
-abbrev pub row_next : Result (Option ℕ) Refusal → ℕ → TableData → ℕ → TableData → Next
-row_next (Ok (Some k)) at c n d = record { line = L.Row k; state = S.Listed at c n 0 }
-row_next (Ok None) at c n d = answered L.AtEnd at d
-row_next (Err q) at c n d = answered (L.Refused q) at d
+-- that of a row read by cursor c into a list of n cells, in a reading: after the count come the cells of the list
+abbrev pub row_next : Result (Option ℕ) Refusal → ℕ → TableData → How → ℕ → TableData → Next
+row_next (Ok (Some k)) at c how n d = record { line = L.Row k; state = S.Listed at c how n 0 }
+row_next (Ok None) at c how n d = answered L.AtEnd at d
+row_next (Err q) at c how n d = answered (L.Refused q) at d

@@ -17,7 +17,7 @@ use Rattle.header.specs.Records.{header_of, data_of}
 
 -- ---- a step
 
--- the step that a line says: a row read has a list of so many cells of zeros
+-- the step that a line says, with its reading: a row read has a list of so many cells of zeros
 pub data Asked : Type 0 where
   step : Step → Asked
   none : Asked
@@ -26,15 +26,15 @@ abbrev pub asked : Says → Asked
 asked choose_all = none
 asked (choose is) = none
 asked (heap on) = none
-asked cell = step read_cell
-asked (row n) = step (read_row (replicate n blank_cell))
+asked (cell how) = step (read_cell how)
+asked (row how n) = step (read_row how (replicate n blank_cell))
 asked (S.seek r) = step (seek r)
 asked bad = none
 
 -- the row that a seek names
 abbrev pub row_of : Step → ℕ
-row_of read_cell = 0
-row_of (read_row list) = 0
+row_of (read_cell how) = 0
+row_of (read_row how list) = 0
 row_of (seek r) = r
 
 -- the lines of an answer, with what the list holds afterwards: a row read's cells stand at its front
@@ -75,8 +75,8 @@ abbrev pub is_setting : Says → Bool
 is_setting choose_all = true
 is_setting (choose is) = true
 is_setting (heap on) = true
-is_setting cell = false
-is_setting (row n) = false
+is_setting (cell how) = false
+is_setting (row how n) = false
 is_setting (S.seek r) = false
 is_setting bad = false
 
@@ -85,8 +85,8 @@ abbrev pub set : Settings → Says → Settings
 set s choose_all = record { columns = all_columns; heap = s.heap }
 set s (choose is) = record { columns = listed is; heap = s.heap }
 set s (heap on) = record { columns = s.columns; heap = on }
-set s cell = s
-set s (row n) = s
+set s (cell how) = s
+set s (row how n) = s
 set s (S.seek r) = s
 set s bad = s
 

@@ -23,8 +23,8 @@ abbrev pub changed : Settings → Option Command → ℕ → Option Settings
 changed t (Some C.ChooseAll) n = Some (record { choose = None; heap = t.heap; at = t.at + n + 1 })
 changed t (Some C.Choose) n = Some (record { choose = Some t.at; heap = t.heap; at = t.at + n + 1 })
 changed t (Some (C.Heap on)) n = Some (record { choose = t.choose; heap = on; at = t.at + n + 1 })
-changed t (Some C.Cell) n = None
-changed t (Some (C.Row m)) n = None
+changed t (Some (C.Cell how)) n = None
+changed t (Some (C.Row how m)) n = None
 changed t (Some (C.Seek r)) n = None
 changed t None n = None
 

@@ -6,7 +6,7 @@ use Rattle.refusal.specs.Refusal.{number_of, place_of}
 use Rattle.bintable.specs.Entry as B
 use Rattle.cell.specs.Item.{blank_cell}
 use Rattle.walk.specs.declared.TableData.{TableData}
-use Rattle.walk.specs.Walk.{Reply, got_cell, got_row, sought, at_end, refused}
+use Rattle.walk.specs.Readings.{stored_by}
 use Rattle.walk.specs.Step.{belongs, cursor_left, StepResult}
 use Rattle.row.specs.Owned.{own_read}
 use Rattle.listing.specs.Lines.{cell_line, refused_line, at_line, line_text}
@@ -23,15 +23,7 @@ use Rattle.output.specs.Replay.{step_lines}
 abbrev pub steps_from : BinTable → List ℕ → List ℕ → ℕ → TableData → List (List ℕ)
 steps_from l a s at = step_lines l a (line_feeds (take at s) + 1) (lines_of (drop at s))
 
--- how many cells a row read stored, by its answer
-abbrev pub stored_by : Reply → ℕ
-stored_by (got_cell c) = 0
-stored_by (got_row k) = k
-stored_by sought = 0
-stored_by at_end = 0
-stored_by (refused n p) = 0
-
--- those from cell k on, as lines, and what comes after them
+-- the cells that a row read stored, from cell k on, as lines, and what comes after them
 abbrev pub listed_from : ℕ → StepResult → (TableData → List (List ℕ)) → List (List ℕ)
 listed_from k o later =
     map cell_line (drop k (take (stored_by o.reply) o.list)) ++ (at_line o.cursor ∷ later o.cursor)
@@ -44,7 +36,7 @@ module _ (h : List ℕ) (l : BinTable) (a s : List ℕ) where
   left (S.Cells c) = cond (belongs l a c) (entry_lines c.count (cursor_left l a c)) (refused_line 10 0 ∷ [])
   left (S.Step at c) = steps_from l a s at c
   left (S.At at c) = at_line c ∷ steps_from l a s at c
-  left (S.Listed at c n k) = listed_from k (own_read l a c blank_cell n) (steps_from l a s at)
+  left (S.Listed at c how n k) = listed_from k (own_read l a c how blank_cell n) (steps_from l a s at)
   left (S.Refused r) = refused_line (number_of r) (place_of r) ∷ []
   left S.Done = []
 

@@ -5,7 +5,7 @@ ghost use Rattle.output.specs.Next.{cells_next, left_in, lines_by};
 use crate::{Next, Parts, State, refused_next};
 use cell::Cell;
 use listing::Line;
-use walk::{Stepped, TableData};
+use walk::{How, Reading, Stepped, TableData};
 
 // The line of a cell read's answer, and the state after it.
 fn answered(stepped: Stepped<Option<Cell>>) -> Next
@@ -25,12 +25,15 @@ fn answered(stepped: Stepped<Option<Cell>>) -> Next
 }
 
 impl Parts<'_> {
-    // A cell read, and the line of its answer.
+    // A plain cell read, and the line of its answer.
     #[tactic(auto, using(crate::proofs::Entries::cells_read))]
     pub fn next_cell(&self, cursor: TableData) -> Next
         ensures { lines_by self.now (Some result) ≡ left_in self.now (State.Cells cursor) }
     {
-        answered(table::next(self.layout, self.area, cursor))
+        let plain = How {
+            reading: Reading::Plain,
+        };
+        answered(table::next(self.layout, self.area, cursor, plain))
     }
 
     // The line of a column. After the last one all columns are opened, with the heap on.

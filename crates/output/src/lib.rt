@@ -20,7 +20,7 @@ ghost use Rattle.output.specs.Page.{page_text, page_rest, Whole};
 use layout::{BinTable, EMPTY_LAYOUT};
 use listing::Line;
 use refusal::Refusal;
-use walk::TableData;
+use walk::{How, TableData};
 
 // How many bytes of a file are looked at.
 pub const FILE_LIMIT: usize = 65536;
@@ -36,7 +36,7 @@ pub enum State {
     Column(usize),
     Cells(TableData),
     // `replay`: the line of the steps at this place, the cursor's place and count, cell k of the list that the row
-    // read by `reader` stores to. A place and no slice of the steps, since a state is plain data.
+    // read by `reader` in a reading stores to. A place and no slice of the steps, since a state is plain data.
     Step {
         at: usize,
         cursor: TableData,
@@ -48,6 +48,7 @@ pub enum State {
     Listed {
         at: usize,
         reader: TableData,
+        how: How,
         len: usize,
         k: usize,
     },
@@ -122,7 +123,13 @@ impl Parts<'_> {
                 line: Line::At(cursor),
                 state: State::Step { at, cursor },
             }),
-            State::Listed { at, reader, len, k } => Some(self.next_listed(at, reader, len, k)),
+            State::Listed {
+                at,
+                reader,
+                how,
+                len,
+                k,
+            } => Some(self.next_listed(at, reader, how, len, k)),
             State::Refused(refusal) => Some(refused_next(refusal)),
             State::Done => None,
         }

@@ -2,7 +2,7 @@
 ghost use Rattle.std.specs.Prelude.{◌≡◌, ◌+◌, ◌≤◌, length, take};
 ghost use Rattle.walk.specs.Step.{row_reply};
 ghost use Rattle.steps.specs.Split.{line_feeds};
-ghost use Rattle.output.specs.State.{stored_by};
+ghost use Rattle.walk.specs.Readings.{stored_by};
 ghost use Rattle.output.specs.Next.{left_in, lines_by, answered, cell_next, seek_next, row_next};
 
 use crate::{Next, Parts, State};
@@ -10,7 +10,7 @@ use cell::Cell;
 use listing::Line;
 use refusal::Refusal;
 use steps::Command;
-use walk::{Stepped, TableData};
+use walk::{How, Stepped, TableData};
 
 // The line of a step's answer, and that the cursor's place and count come after it.
 fn answered(line: Line, at: usize, cursor: TableData) -> Next
@@ -45,8 +45,14 @@ fn seek_answered(stepped: Stepped<()>, row: usize, at: usize) -> Next
 }
 
 // The line of a row read's answer: the cells of its list come after it.
-fn row_answered(stepped: Stepped<Option<u64>>, at: usize, reader: TableData, len: usize) -> Next
-    ensures { result ≡ row_next stepped.answer at reader len stepped.cursor }
+fn row_answered(
+    stepped: Stepped<Option<u64>>,
+    at: usize,
+    reader: TableData,
+    how: How,
+    len: usize,
+) -> Next
+    ensures { result ≡ row_next stepped.answer at reader how len stepped.cursor }
 {
     match stepped.answer {
         Ok(Some(cells)) => Next {
@@ -54,6 +60,7 @@ fn row_answered(stepped: Stepped<Option<u64>>, at: usize, reader: TableData, len
             state: State::Listed {
                 at,
                 reader,
+                how,
                 len,
                 k: 0,
             },
@@ -96,11 +103,21 @@ impl Parts<'_> {
             return Some(bad_line(self.steps, at));
         };
         let next = match command {
-            Command::Cell => { cell_answered(table::next(self.layout, self.area, cursor), after) }
-            Command::Row(n) => {
+            Command::Cell(how) => {
+                cell_answered(table::next(self.layout, self.area, cursor, how), after)
+            }
+            Command::Row { how, cells } => {
                 let blank = cell::blank_cell();
-                let read = row::owners::row_cell(self.layout, self.area, cursor, blank, n, 0);
-                row_answered(read.stepped, after, cursor, n)
+                let read = row::owners::row_cell(
+                    self.layout,
+                    self.area,
+                    cursor,
+                    how,
+                    blank,
+                    cells,
+                    0,
+                );
+                row_answered(read.stepped, after, cursor, how, cells)
             }
             Command::Seek(row) => {
                 let stepped = table::seek_to_row(self.layout, self.area, cursor, row);
@@ -114,11 +131,11 @@ impl Parts<'_> {
     // The next cell of the list that a row read stored to; after the last one the cursor's place and count. The row is
     // read anew for each cell, since no state can hold the list.
     #[tactic(auto, using(crate::proofs::Lines::listed_next, crate::proofs::Lines::listed_over))]
-    pub fn next_listed(&self, at: usize, reader: TableData, len: usize, k: usize) -> Next
-        ensures { lines_by self.now (Some result) ≡ left_in self.now (State.Listed at reader len k) }
+    pub fn next_listed(&self, at: usize, reader: TableData, how: How, len: usize, k: usize) -> Next
+        ensures { lines_by self.now (Some result) ≡ left_in self.now (State.Listed at reader how len k) }
     {
         let blank = cell::blank_cell();
-        let read = row::owners::row_cell(self.layout, self.area, reader, blank, len, k);
+        let read = row::owners::row_cell(self.layout, self.area, reader, how, blank, len, k);
         let Stepped { cursor, answer } = read.stepped;
         if (k as u64) < stored(answer) {
             return Next {
@@ -126,6 +143,7 @@ impl Parts<'_> {
                 state: State::Listed {
                     at,
                     reader,
+                    how,
                     len,
                     k: k + 1,
                 },

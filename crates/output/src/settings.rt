@@ -34,7 +34,7 @@ fn next_settings(steps: &[u8], settings: Settings) -> Option<Settings>
         Command::ChooseAll => (None, settings.heap),
         Command::Choose => (Some(settings.at), settings.heap),
         Command::Heap(on) => (settings.choose, on),
-        Command::Cell | Command::Row(_) | Command::Seek(_) => return None,
+        Command::Cell(_) | Command::Row { .. } | Command::Seek(_) => return None,
     };
     Some(Settings {
         choose,

@@ -7,16 +7,17 @@ use Rattle.std.specs.Prelude.{Option, Some, None, is_some}
 use mathlib.Core.Bool.{and-false}
 use Rattle.std.proofs.lemmas.Bool.{ltb-true, leb-true, lt-ltb, le-ltb, le-leb, lt-leb}
 use borrow.Author.Tests.{ltb-false, leb-false}
-use lib.Dec.{ltb, leb}
+use lib.Dec.{eqb, ltb, leb}
 use Rattle.ascii.specs.Buffer.{put_in}
 use Rattle.ascii.proofs.Cases.{either}
 use Rattle.ascii.proofs.Chain.{front}
+use Rattle.tform.specs.Width.{form_letter}
 use Rattle.layout.specs.declared.BinTable.{BinTable}
 use Rattle.walk.specs.Plain.{column_of}
 use Rattle.walk.specs.Step.{fits}
 use Rattle.walk.proofs.Inside.{fits_layout}
 use Rattle.weight.specs.declared.Edition.{Edition}
-use Rattle.profile.specs.Page.{profile_page, edition_of, e_column, page_in, wrote, refused, page_reply, page_left}
+use Rattle.profile.specs.Page.{profile_page, edition_of, page_column, page_in, wrote, refused, page_reply, page_left}
 use Rattle.profile.proofs.Puts.{rest_put}
 use Rattle.profile.proofs.Fits.{page_length}
 
@@ -30,16 +31,16 @@ module _ (l : BinTable) (a : List ℕ) (c r number room : ℕ) where
   pub record Refusals : Type 0 where
     pub mismatch : fits l a ≡ false → page_reply l a c r number room ≡ refused 10 0
     pub no_edition : fits l a ≡ true → edition_of number ≡ None → page_reply l a c r number room ≡ refused 15 0
-    pub no_column : fits l a ≡ true → e_column l c ≡ false → page_reply l a c r number room ≡ refused 15 0
-    pub no_row : (ed : Edition) → fits l a ≡ true → edition_of number ≡ Some ed → e_column l c ≡ true
+    pub no_column : fits l a ≡ true → page_column l c ≡ false → page_reply l a c r number room ≡ refused 15 0
+    pub no_row : (ed : Edition) → fits l a ≡ true → edition_of number ≡ Some ed → page_column l c ≡ true
         → l.naxis2 ≤ r → page_reply l a c r number room ≡ refused 12 r
-    pub short : (ed : Edition) → fits l a ≡ true → edition_of number ≡ Some ed → e_column l c ≡ true
+    pub short : (ed : Edition) → fits l a ≡ true → edition_of number ≡ Some ed → page_column l c ≡ true
         → r < l.naxis2 → room < page_bytes l c → page_reply l a c r number room ≡ refused 14 (page_bytes l c)
-    pub none : (ed : Edition) → fits l a ≡ true → edition_of number ≡ Some ed → e_column l c ≡ true
+    pub none : (ed : Edition) → fits l a ≡ true → edition_of number ≡ Some ed → page_column l c ≡ true
         → r < l.naxis2 → page_bytes l c ≤ room → page_reply l a c r number room ≡ wrote (page_bytes l c)
 
   -- the page's length, where there is one
-  page_size : (ed : Edition) → fits l a ≡ true → edition_of number ≡ Some ed → e_column l c ≡ true → r < l.naxis2
+  page_size : (ed : Edition) → fits l a ≡ true → edition_of number ≡ Some ed → page_column l c ≡ true → r < l.naxis2
       → length (page_in l a c r (edition_of number)) ≡ page_bytes l c
   page_size ed f e t h = rw e (page_length l (fits_layout l a f) c t a r h ed)
 
@@ -62,7 +63,7 @@ module _ (l : BinTable) (a : List ℕ) (c r number room : ℕ) where
     pub ed : Edition
     pub fitting : fits l a ≡ true
     pub edition : edition_of number ≡ Some ed
-    pub column : e_column l c ≡ true
+    pub column : page_column l c ≡ true
     pub row : r < l.naxis2
     pub size : n ≡ page_bytes l c
     pub fills : length (profile_page l a c r ed) ≡ n
@@ -83,7 +84,7 @@ module _ (l : BinTable) (a : List ℕ) (c r number room : ℕ) where
           by_edition : (x : Option Edition) → edition_of number ≡ x → Written n
           by_edition None e = absurd (differ (sym (page_refusals.no_edition f e) ∙ w))
           by_edition (Some ed) e =
-              either (e_column l c)
+              either (page_column l c)
               (λ t. either (ltb r l.naxis2)
               (λ h. either (leb (page_bytes l c) room)
               (λ s. let inside = ltb-true r l.naxis2 h in
@@ -140,9 +141,15 @@ module _ (l : BinTable) (a : List ℕ) (c r number : ℕ) (buffer : List ℕ) wh
 
 -- a page without lines
 pub no_lines : (l : BinTable) (a : List ℕ) (c r number : ℕ) (ed : Edition) (buffer : List ℕ) → fits l a ≡ true
-    → edition_of number ≡ Some ed → e_column l c ≡ true → r < l.naxis2 → (column_of l c).count ≡ 0
+    → edition_of number ≡ Some ed → page_column l c ≡ true → r < l.naxis2 → (column_of l c).count ≡ 0
     → (page_reply l a c r number (length buffer) ≡ wrote 0) × (page_left l a c r number buffer ≡ buffer)
 no_lines l a c r number ed buffer f e t h z =
     let none : page_bytes l c ≡ 0 = omega arith in
     let w = (page_refusals l a c r number (length buffer)).none ed f e t h (omega (arith, none)) ∙ ap wrote none in
     (w, (page_rest l a c r number buffer 0 w).rest)
+
+-- a column with TSCALn or TZEROn has no page
+pub scaled_page : (l : BinTable) (a : List ℕ) (c r number room : ℕ) → fits l a ≡ true → (column_of l c).scaling_given ≡ true
+    → page_reply l a c r number room ≡ refused 15 0
+scaled_page l a c r number room f s =
+    (page_refusals l a c r number room).no_column f (rw (s, and-false (eqb (form_letter (column_of l c).form) 69), and-false (ltb c l.tfields)))

@@ -1,4 +1,4 @@
--- The page shows the cells that the cursor hands out, and nothing of the area but the field of its column and row.
+-- The page shows the cells that the cursor hands out in the plain reading, and nothing of the area but the field of its column and row.
 -- Assumes nothing.
 use Rattle.std.proofs.Common.{ℕ, ◌≡◌, ◌+◌, ◌*◌, ◌<◌, ◌≤◌, Bool, true, List, get_or, refl, ap, arith}
 use Rattle.std.specs.Float.{binary32}
@@ -16,11 +16,11 @@ use Rattle.cell.proofs.Same.{word_same}
 use Rattle.walk.specs.Plain.{column_of, field_at, field_of, item_at, chosen, cells, entries_of, column_entries}
 use Rattle.weight.specs.declared.Edition.{Edition}
 use Rattle.weight.specs.Weight.{weight_text}
-use Rattle.profile.specs.Page.{profile_line, bits_at, weight_at, profile_page, e_column}
+use Rattle.profile.specs.Page.{profile_line, bits_at, weight_at, profile_page, page_column}
 use Rattle.profile.proofs.Fits.{e_width, e_bytes, column_form}
 
 -- what the field of an E column stands for in the plain list, with the heap on or off
-pub e_field : (l : BinTable) (a : List ℕ) (heap : Bool) (r c : ℕ) → e_column l c ≡ true
+pub e_field : (l : BinTable) (a : List ℕ) (heap : Bool) (r c : ℕ) → page_column l c ≡ true
     → field_of l a heap r c ≡ F.Items T.E (field_at l r c) (column_of l c).count
 unfolding field_of field
 e_field l a heap r c e =
@@ -36,14 +36,14 @@ cell_bits l a r c i = refl
 
 -- so the entries of the column in the row, which the cursor hands out, are those floats, by index
 pub e_entries : (l : BinTable) (a : List ℕ) (choice : ℕ) (heap : Bool) (r c : ℕ) → chosen choice c ≡ true
-    → e_column l c ≡ true
+    → page_column l c ≡ true
     → column_entries l a choice heap r c
     ≡ cells r c (λ i. D.Float (of_bits binary32 (bits_at l a c r i)) (bits_at l a c r i)) 0 (column_of l c).count
 unfolding column_entries entries_of item
 e_entries l a choice heap r c t e = rw (t, e_field l a heap r c e) refl
 
 -- two areas with the same bytes in the field have the same page
-pub page_same : (l : BinTable) (a b : List ℕ) (c r : ℕ) (ed : Edition) → e_column l c ≡ true
+pub page_same : (l : BinTable) (a b : List ℕ) (c r : ℕ) (ed : Edition) → page_column l c ≡ true
     → ((p : ℕ) → field_at l r c ≤ p → p < field_at l r c + column_bytes (column_of l c) → get_or a p 0 ≡ get_or b p 0)
     → profile_page l a c r ed ≡ profile_page l b c r ed
 unfolding profile_page

@@ -1,6 +1,6 @@
 -- A row, an index and a weight always fit their places, so each line of a page has 27 bytes.
 -- Assumes nothing.
-use Rattle.std.proofs.Common.{ℕ, ◌≡◌, ◌*◌, ◌<◌, ◌≤◌, true, List, length, refl, ap, ◌∙◌, arith}
+use Rattle.std.proofs.Common.{Bool, not, ◌&&◌, ℕ, ◌≡◌, ◌*◌, ◌<◌, ◌≤◌, true, List, length, refl, ap, ◌∙◌, arith}
 use Rattle.std.proofs.lemmas.Bool.{and_parts, ltb-true}
 use lib.Dec.{eqb, ltb}
 use Rattle.ascii.specs.Text.{bytes}
@@ -18,7 +18,7 @@ use Rattle.walk.specs.Plain.{column_of}
 use Rattle.walk.proofs.Inside.{column_in_row}
 use Rattle.weight.specs.declared.Edition.{Edition}
 use Rattle.weight.proofs.Width.{weight_length}
-use Rattle.profile.specs.Page.{profile_line, weight_at, profile_page, e_column}
+use Rattle.profile.specs.Page.{profile_line, weight_at, profile_page, page_column}
 use Rattle.profile.proofs.Widths.{row_short, idx_short, line_length, Fields, line_fields}
 
 -- an E item has four bytes
@@ -41,15 +41,18 @@ e_form (F.Items T.M) e = cc
 e_form (F.P t) e = cc
 e_form (F.Q t) e = cc
 
-module _ (l : BinTable) (c : ℕ) (e : e_column l c ≡ true) where
-  parts : (ltb c l.tfields ≡ true) × (eqb (form_letter (column_of l c).form) 69 ≡ true)
-  parts = and_parts (ltb c l.tfields) (eqb (form_letter (column_of l c).form) 69) e
+module _ (l : BinTable) (c : ℕ) (e : page_column l c ≡ true) where
+  abbrev is_e : Bool
+  is_e = eqb (form_letter (column_of l c).form) 69
+
+  parts : (ltb c l.tfields ≡ true) × ((is_e && not (column_of l c).scaling_given) ≡ true)
+  parts = and_parts (ltb c l.tfields) (is_e && not (column_of l c).scaling_given) e
 
   pub in_table : c < l.tfields
   in_table = ltb-true c l.tfields parts.0
 
   pub column_form : (column_of l c).form ≡ F.Items T.E
-  column_form = e_form (column_of l c).form parts.1
+  column_form = e_form (column_of l c).form (and_parts is_e (not (column_of l c).scaling_given) parts.1).0
 
   pub e_bytes : column_bytes (column_of l c) ≡ (column_of l c).count * 4
   unfolding letter_width among bytes
@@ -62,7 +65,7 @@ module _ (l : BinTable) (ok : layout_ok l ≡ true) where
   pub row_fits : (row : ℕ) → row < l.naxis2 → length (decimal_text row) ≤ 8
   row_fits row h = row_short row (row_small row h)
 
-  module _ (c : ℕ) (e : e_column l c ≡ true) where
+  module _ (c : ℕ) (e : page_column l c ≡ true) where
     pub few_items : (column_of l c).count ≤ 262144
     few_items = omega (arith, e_bytes l c e, column_in_row l ok c (in_table l c e), (limits l ok).row_bytes)
 

@@ -16,14 +16,14 @@ use Rattle.weight.specs.declared.Edition.{Edition}
 use Rattle.weight.specs.Weight.{stars}
 use Rattle.weight.specs.Reading.{Says, Unwritable}
 use Rattle.weight.proofs.Stars.{weight_or_stars}
-use Rattle.profile.specs.Page.{profile_line, bits_at, weight_at, profile_page, edition_of, e_column, wrote}
+use Rattle.profile.specs.Page.{profile_line, bits_at, weight_at, profile_page, edition_of, page_column, wrote}
 use Rattle.profile.specs.Page.{page_reply, page_left}
 use Rattle.profile.proofs.Fits.{each_line, each_fields, page_length}
 use Rattle.profile.proofs.Widths.{Fields}
 use Rattle.profile.proofs.Calls.{page_put, written_is}
 
 pub page_line : (l : BinTable) (a : List ℕ) (c r : ℕ) (ed : Edition) (i : ℕ) → layout_ok l ≡ true
-    → e_column l c ≡ true → r < l.naxis2 → i < (column_of l c).count
+    → page_column l c ≡ true → r < l.naxis2 → i < (column_of l c).count
     → take 27 (drop (27 * i) (profile_page l a c r ed)) ≡ profile_line r i (weight_at l a c r ed i)
 unfolding profile_page
 page_line l a c r ed i ok t h q =

@@ -1,6 +1,6 @@
 -- The profile page: a row of an E column as lines, one for each item (FORMAT.md, section 20).
 -- Assumes nothing.
-use Rattle.std.specs.Prelude.{ℕ, ◌+◌, ◌*◌, Bool, ◌&&◌, cond, List, [], ◌∷◌, ◌++◌, length, eqb, leb, ltb}
+use Rattle.std.specs.Prelude.{ℕ, ◌+◌, ◌*◌, Bool, not, ◌&&◌, cond, List, [], ◌∷◌, ◌++◌, length, eqb, leb, ltb}
 use Rattle.std.specs.Prelude.{Option, Some, None, is_some, Result, Ok, Err}
 use Rattle.std.specs.Float.{binary32}
 use Rattle.std.specs.Float.Ieee.{of_bits}
@@ -43,9 +43,9 @@ profile_page l a c r edition =
 abbrev pub edition_of : ℕ → Option Edition
 edition_of n = cond (eqb n 1) (Some Ed.One) (cond (eqb n 2) (Some Ed.Two) None)
 
--- an E column of a layout: the letter of its form is E (69), and that of `PE` is P
-abbrev pub e_column : BinTable → ℕ → Bool
-e_column l c = ltb c l.tfields && eqb (form_letter (column_of l c).form) 69
+-- a column that has a page: the letter of its form is E (69), where that of `PE` is P, and neither TSCALn nor TZEROn is given
+abbrev pub page_column : BinTable → ℕ → Bool
+page_column l c = ltb c l.tfields && (eqb (form_letter (column_of l c).form) 69 && not (column_of l c).scaling_given)
 
 -- what the call answers: how many bytes it wrote, or the number and place of a refusal
 pub data Reply : Type 0 where
@@ -62,7 +62,7 @@ unfoldable pub page_reply : BinTable → List ℕ → ℕ → ℕ → ℕ → �
 page_reply l a c r edition room =
     let needed = length (page_in l a c r (edition_of edition)) in
     cond (fits l a)
-    (cond (is_some (edition_of edition) && e_column l c)
+    (cond (is_some (edition_of edition) && page_column l c)
     (cond (ltb r l.naxis2)
     (cond (leb needed room) (wrote needed) (refused 14 needed))
     (refused 12 r))

@@ -8,7 +8,7 @@ ghost use Rattle.ascii.specs.Number.{decimal_text, right_aligned};
 ghost use Rattle.ascii.specs.Buffer.{put_in, written};
 ghost use Rattle.walk.specs.Plain.{column_of};
 ghost use Rattle.weight.specs.Weight.{weight_text};
-ghost use Rattle.profile.specs.Page.{profile_line, edition_of, e_column, page_reply, page_left, reply_of};
+ghost use Rattle.profile.specs.Page.{profile_line, edition_of, page_column, page_reply, page_left, reply_of};
 ghost use Rattle.profile.specs.Lines.{lines};
 
 use itoa::Buffer;
@@ -90,20 +90,24 @@ fn edition_of(number: u64) -> Option<Edition>
     }
 }
 
-// The E column with an index; none where there is no column, or it is of another form.
-fn find_e_column(layout: &BinTable, c: usize) -> Option<Column>
+// The column with an index, of which there are pages; none where there is no column, or it is of another form than E, or
+// has a factor or a zero.
+fn find_page_column(layout: &BinTable, c: usize) -> Option<Column>
     requires { layout.now.tfields ≤ 64 }
-    ensures { result ≡ cond (e_column layout.now c) (Some (column_of layout.now c)) None }
+    ensures { result ≡ cond (page_column layout.now c) (Some (column_of layout.now c)) None }
 {
     if layout.tfields <= c || tform::form_letter(layout.columns[c].form) != b'E' {
+        return None;
+    }
+    if layout.columns[c].scaling_given {
         return None;
     }
     Some(layout.columns[c])
 }
 
-// Writes the page of a row of an E column to the front of a buffer, and hands back how many bytes those are. Refused
-// with 10 if the layout and the area do not belong together, then with 15 if there is no such edition or E column,
-// with 12 if there is no such row, and with 14 if the buffer is too short. A refusal writes nothing.
+// Writes the page of a row of an E column with neither factor nor zero to the front of a buffer, and hands back how many
+// bytes those are. Refused with 10 if the layout and the area do not belong together, then with 15 if there is no such
+// edition or column, with 12 if there is no such row, and with 14 if the buffer is too short. A refusal writes nothing.
 pub fn put_page(
     layout: BinTable,
     area: &[u8],
@@ -119,7 +123,7 @@ pub fn put_page(
         return Err(Refusal::Mismatch);
     }
     let edition = edition_of(edition).ok_or(Refusal::Unsuitable)?;
-    let column = find_e_column(&layout, column).ok_or(Refusal::Unsuitable)?;
+    let column = find_page_column(&layout, column).ok_or(Refusal::Unsuitable)?;
     if layout.naxis2 <= row as u64 {
         return Err(Refusal::NoSuchRow { row });
     }

@@ -16,7 +16,7 @@ use Rattle.std.proofs.lemmas.Nat.{pow-add}
 use Rattle.ascii.specs.Text.{decimal}
 use Rattle.ascii.proofs.Cases.{either, both}
 use Rattle.ascii.proofs.Decimal.{ten_le}
-use Rattle.real.specs.Written.{Exponent, Number, fraction_digits, rounded, double, negative, up, down, within, plain, is_taken, proper}
+use Rattle.real.specs.Written.{Exponent, Number, fraction_digits, rounded, double, negative, up, down, within, bare, is_taken, proper}
 
 -- ---- by the sign
 
@@ -99,7 +99,7 @@ largest_proper true = refl
 largest_proper false = refl
 
 taken : (s : Bool) (m : ℕ) (f : Option (List ℕ)) (e : Option Exponent)
-    → (within m (up e) (length (fraction_digits f) + down e) || (plain f e && eqb m 9223372036854775808)) ≡ true
+    → (within m (up e) (length (fraction_digits f) + down e) || (bare f e && eqb m 9223372036854775808)) ≡ true
     → proper (rounded s m (up e) (length (fraction_digits f) + down e)) ≡ true
 taken s m None None h =
     either (within m 0 0) (λ t. within_proper s m 0 0 t)

@@ -1,11 +1,15 @@
 -- The laws of a number's text and of the double that is read of it.
 -- Assumes nothing.
-use Rattle.std.proofs.Common.{ap, ◌≡◌, List, ◌++◌, ℕ, true, Some, sym, ◌∙◌}
+use Rattle.std.proofs.Common.{ap, ◌≡◌, List, ◌++◌, ℕ, true, Some, sym, ◌∙◌, ◌*◌, ◌^◌, ◌+◌, ◌&&◌, length, subst}
+use Rattle.std.specs.Prelude.{ltb}
 use Rattle.std.proofs.lemmas.Option.{cond_some}
-use Rattle.std.specs.Float.{Float}
+use lib.Dec.{T}
+use lib.Ieee.Fits.{round-fits}
+use Rattle.std.specs.Float.{Float, binary64}
+use Rattle.std.specs.Float.Ieee.{fits}
 use Rattle.card.specs.Ends.{follows}
 use Rattle.real.specs.Real.{real_of}
-use Rattle.real.specs.Written.{Number, IsNumber, text, is_taken, double, value, proper}
+use Rattle.real.specs.Written.{Number, IsNumber, fraction_digits, negative, significand, up, down, text, is_taken, double, value, proper}
 use Rattle.real.proofs.Finite.{double_proper}
 use Rattle.real.proofs.Reading.{number_value}
 use Rattle.real.proofs.Splits.{split}
@@ -38,3 +42,11 @@ pub finite : (s : List ℕ) (x : Float) → real_of s ≡ Some x → proper x �
 finite s x h =
     let r = read_written s x h in
     ap proper r.double ∙ double_proper r.number r.taken
+
+-- What is read is a double.
+pub read_fits : (s : List ℕ) (x : Float) → real_of s ≡ Some x → T (fits binary64 x)
+read_fits s x h =
+    let r = read_written s x h in let n = r.number in
+    subst (λ (y : Float). T (fits binary64 y)) (sym r.double)
+    (round-fits binary64 (negative n.sign && ltb 0 (significand n)) (significand n * 10 ^ up n.exponent)
+    (10 ^ (length (fraction_digits n.fraction) + down n.exponent)))

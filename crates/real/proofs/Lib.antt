@@ -6,3 +6,4 @@ pub mod Splits
 pub mod Laws
 pub mod Examples
 pub mod Finite
+pub mod Whole

@@ -8,7 +8,7 @@ use Rattle.ascii.specs.Text.{decimal}
 use Rattle.card.specs.Ends.{follows}
 use Rattle.card.specs.Value.{signed}
 use Rattle.real.specs.Real.{is_minus, after_sign, digits, after_digits, has_point, fraction, after_number, has_exponent, nearest, limited, with_exponent, without_exponent, unsigned, real_of}
-use Rattle.real.specs.Written.{Exponent, Number, fraction_digits, Digits, ExponentDigits, IsNumber, sign_text, fraction_text, exponent_text, text, negative, up, down, rounded, within, plain, value}
+use Rattle.real.specs.Written.{Exponent, Number, fraction_digits, Digits, ExponentDigits, IsNumber, sign_text, fraction_text, exponent_text, text, negative, up, down, rounded, within, bare, value}
 use Rattle.real.proofs.Powers.{limited_is, power_is, places_is, nearest_is}
 use Rattle.real.proofs.Texts.{digits_are, after_is, Other, other_after, no_exponent, other_letter, an_exponent, Bare, bare_digits, minus_is, unsigned_is}
 
@@ -16,7 +16,7 @@ use Rattle.real.proofs.Texts.{digits_are, after_is, Other, other_after, no_expon
 abbrev read_as : Bool → ℕ → Option (List ℕ) → Option Exponent → Option Float
 read_as neg m f e =
     let d = length (fraction_digits f) + down e in
-    cond (within m (up e) d || (plain f e && eqb m 9223372036854775808)) (Some (rounded neg m (up e) d)) None
+    cond (within m (up e) d || (bare f e && eqb m 9223372036854775808)) (Some (rounded neg m (up e) d)) None
 
 abbrev pointed : Option (List ℕ) → Bool
 pointed None = false
@@ -29,9 +29,9 @@ second true false x y h = refl
 second false true x y h = ap (λ v. Some v) (h refl)
 second false false x y h = refl
 
-not_plain : (g : Option (List ℕ)) (e : Exponent) → plain g (Some e) ≡ false
-not_plain None e = refl
-not_plain (Some g) e = refl
+not_bare : (g : Option (List ℕ)) (e : Exponent) → bare g (Some e) ≡ false
+not_bare None e = refl
+not_bare (Some g) e = refl
 
 -- ---- the definitions at parts that are known
 
@@ -77,7 +77,7 @@ module _ (r : List ℕ) (f : follows r ≡ true) where
       let o = other_after r f in
       let s = append_assoc (sign_text e.sign) x r in
       let y = rounded neg m (cond (negative e.sign) 0 n) (d + cond (negative e.sign) n 0) in
-      rw (an_exponent t e.letter, not_plain g e)
+      rw (an_exponent t e.letter, not_bare g e)
       (ap (with_exponent neg m d) s
       ∙ exponent_at neg m d (sign_text e.sign ++ (x ++ r)) (x ++ r) x r (negative e.sign) (unsigned_is (x ++ r) b e.sign) (minus_is (x ++ r) b e.sign)
       (digits_are r o.digit x h.0) (after_is r o.digit x h.0) h.1 f

@@ -75,8 +75,8 @@ negative plus = false
 negative minus = true
 
 -- the number without its point, sign and exponent
-abbrev pub unscaled : Number → ℕ
-unscaled n = decimal 0 (n.whole ++ fraction_digits n.fraction)
+abbrev pub significand : Number → ℕ
+significand n = decimal 0 (n.whole ++ fraction_digits n.fraction)
 
 -- the powers of ten that it is multiplied by and divided by: each place after the point divides by ten
 abbrev pub up : Option Exponent → ℕ
@@ -92,23 +92,23 @@ abbrev pub rounded : Bool → ℕ → ℕ → ℕ → Float
 rounded neg m u d = round binary64 (neg && ltb 0 m) (m * 10 ^ u) (10 ^ d)
 
 abbrev pub double : Number → Float
-double n = rounded (negative n.sign) (unscaled n) (up n.exponent) (length (fraction_digits n.fraction) + down n.exponent)
+double n = rounded (negative n.sign) (significand n) (up n.exponent) (length (fraction_digits n.fraction) + down n.exponent)
 
 -- 15 digits at most, and 22 powers of ten up or down
 abbrev pub within : ℕ → ℕ → ℕ → Bool
 within m u d = ltb m (10 ^ 15) && (leb u (d + 22) && leb d (u + 22))
 
 -- neither a point nor an exponent
-abbrev pub plain : Option (List ℕ) → Option Exponent → Bool
-plain None None = true
-plain None (Some e) = false
-plain (Some f) e = false
+abbrev pub bare : Option (List ℕ) → Option Exponent → Bool
+bare None None = true
+bare None (Some e) = false
+bare (Some f) e = false
 
 -- within the limits, or 9223372036854775808 with neither a point nor an exponent
 abbrev pub is_taken : Number → Bool
 is_taken n =
-    within (unscaled n) (up n.exponent) (length (fraction_digits n.fraction) + down n.exponent)
-    || (plain n.fraction n.exponent && eqb (unscaled n) 9223372036854775808)
+    within (significand n) (up n.exponent) (length (fraction_digits n.fraction) + down n.exponent)
+    || (bare n.fraction n.exponent && eqb (significand n) 9223372036854775808)
 
 abbrev pub value : Number → Option Float
 value n = cond (is_taken n) (Some (double n)) None

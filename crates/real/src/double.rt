@@ -12,7 +12,7 @@ const DIGITS_END: usize = 1_000_000_000_000_000;
 const MOST_POWER: u128 = 22;
 
 // The one number of more digits that is taken: the zero of an unsigned 64-bit column.
-const UNSIGNED_ZERO: usize = 9_223_372_036_854_775_808;
+const LONG_ZERO: usize = 9_223_372_036_854_775_808;
 
 // 0 has no minus.
 #[tactic(auto, unfolding(crate::specs::Real::nearest))]
@@ -67,7 +67,7 @@ fn without_exponent(
     if !card::may_follow(text) {
         return None;
     }
-    if !point && digits == UNSIGNED_ZERO {
+    if !point && digits == LONG_ZERO {
         return Some(nearest(minus, digits, 0));
     }
     limited(minus, digits, -(places as i128))

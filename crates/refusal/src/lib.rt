@@ -30,9 +30,11 @@ pub enum Refusal {
     // What was lent is too short for what is needed: a list for the cells of a row read, a buffer for the bytes of a
     // page.
     ShortList { needed: u64 },
-    // What is asked for does not suit: the column is missing or not of a type that the call takes, or there is no such
-    // edition.
+    // What is asked for does not suit: the column is missing, not of a type that the call takes, or has a factor or a
+    // zero, or there is no such edition.
     Unsuitable,
+    // That of the entry for the scaling of column n.
+    InvalidScaling { n: usize },
     // That of turning: the two buffers differ in length, or are too short.
     BufferMismatch,
 }
@@ -68,6 +70,7 @@ pub fn number(refusal: Refusal) -> u64
         Refusal::ArrayOutsideHeap { column: _ } => 13,
         Refusal::ShortList { needed: _ } => 14,
         Refusal::Unsuitable => 15,
+        Refusal::InvalidScaling { n: _ } => 16,
         Refusal::BufferMismatch => 22,
     }
 }
@@ -92,6 +95,7 @@ pub fn place(refusal: Refusal) -> u64
         Refusal::ArrayOutsideHeap { column } => column as u64,
         Refusal::ShortList { needed } => needed,
         Refusal::Unsuitable => 0,
+        Refusal::InvalidScaling { n } => n as u64,
         Refusal::BufferMismatch => 0,
     }
 }

@@ -22,6 +22,7 @@ use Rattle.bintable.specs.contracts.parse as bintable_parse
 use Rattle.cell.specs.declared.Cell.{Cell}
 use Rattle.walk.specs.declared.TableData.{TableData}
 use Rattle.walk.specs.declared.Stepped.{Stepped}
+use Rattle.walk.specs.declared.How.{How}
 use Rattle.walk.specs.Step.{all_columns, listed}
 use Rattle.table.specs.contracts.open as table_open
 use Rattle.table.specs.contracts.select_fields as table_select_fields
@@ -57,15 +58,15 @@ module _ {M : Type 1} {𝓤 : Ura M} (𝓛 : Logic 𝓤) (mem : Memory → SProp
   -- ---- the steps by value
 
   module _ (cursor : TableData) where
-    pub next_ensures : (r : Stepped (Option Cell))
-        → (table_next.clauses 𝓛 mem run (κ, tt) (l, (area, (cursor, tt)))).ensures tt r (l, (area, (cursor, tt)))
-        ≡ fact 𝓤 (NextEnsures l area.now cursor r)
-    next_ensures r = refl
+    pub next_ensures : (how : How) (r : Stepped (Option Cell))
+        → (table_next.clauses 𝓛 mem run (κ, tt) (l, (area, (cursor, (how, tt))))).ensures tt r (l, (area, (cursor, (how, tt))))
+        ≡ fact 𝓤 (NextEnsures l area.now cursor how r)
+    next_ensures how r = refl
 
-    pub row_ensures : (list after : MutBor (List Cell)) (r : Stepped (Option ℕ))
-        → (read_row_by_value.clauses 𝓛 mem run (κ, (κ', tt)) (l, (area, (cursor, (list, tt))))).ensures tt r (l, (area, (cursor, (after, tt))))
-        ≡ fact 𝓤 (RowEnsures l area.now cursor list.now after.now r)
-    row_ensures list after r = refl
+    pub row_ensures : (how : How) (list after : MutBor (List Cell)) (r : Stepped (Option ℕ))
+        → (read_row_by_value.clauses 𝓛 mem run (κ, (κ', tt)) (l, (area, (cursor, (how, (list, tt)))))).ensures tt r (l, (area, (cursor, (how, (after, tt)))))
+        ≡ fact 𝓤 (RowEnsures l area.now cursor how list.now after.now r)
+    row_ensures how list after r = refl
 
     pub seek_ensures : (row : ℕ) (r : Stepped Unit)
         → (table_seek_to_row.clauses 𝓛 mem run (κ, tt) (l, (area, (cursor, (row, tt))))).ensures tt r (l, (area, (cursor, (row, tt))))
@@ -75,27 +76,27 @@ module _ {M : Type 1} {𝓤 : Ura M} (𝓛 : Logic 𝓤) (mem : Memory → SProp
     -- ---- the owners
 
     -- a row read into a list of the owner's, and a cell of what it holds afterwards
-    module _ (filler : Cell) (n k : ℕ) where
+    module _ (how : How) (filler : Cell) (n k : ℕ) where
       abbrev lists : List Cell
-      lists = (own_read l area.now cursor filler n).list
+      lists = (own_read l area.now cursor how filler n).list
 
       pub own_row_ensures : (r : RowCell)
-          → (own_row_cell.clauses 𝓛 mem run (κ, tt) (l, (area, (cursor, (filler, (n, (k, tt))))))).ensures tt r (l, (area, (cursor, (filler, (n, (k, tt))))))
-          ≡ sep 𝓤 (fact 𝓤 (RowEnsures l area.now cursor (own_list filler n) lists r.stepped)) (fact 𝓤 (r.cell ≡ get_or lists k filler))
+          → (own_row_cell.clauses 𝓛 mem run (κ, tt) (l, (area, (cursor, (how, (filler, (n, (k, tt)))))))).ensures tt r (l, (area, (cursor, (how, (filler, (n, (k, tt)))))))
+          ≡ sep 𝓤 (fact 𝓤 (RowEnsures l area.now cursor how (own_list filler n) lists r.stepped)) (fact 𝓤 (r.cell ≡ get_or lists k filler))
       own_row_ensures r = refl
 
   -- ---- the steps over a lent cursor
 
   module _ (cursor moved : MutBor TableData) where
-    pub lent_next_ensures : (r : Result (Option Cell) Refusal)
-        → (lent_next.clauses 𝓛 mem run (κ, (κ', tt)) (cursor, (l, (area, tt)))).ensures tt r (moved, (l, (area, tt)))
-        ≡ fact 𝓤 (LentNextEnsures l area.now cursor.now moved.now r)
-    lent_next_ensures r = refl
+    pub lent_next_ensures : (how : How) (r : Result (Option Cell) Refusal)
+        → (lent_next.clauses 𝓛 mem run (κ, (κ', tt)) (cursor, (l, (area, (how, tt))))).ensures tt r (moved, (l, (area, (how, tt))))
+        ≡ fact 𝓤 (LentNextEnsures l area.now cursor.now moved.now how r)
+    lent_next_ensures how r = refl
 
-    pub lent_row_ensures : (list after : MutBor (List Cell)) (r : Result (Option ℕ) Refusal)
-        → (lent_next_row.clauses 𝓛 mem run (κ, (κ', (κ'', tt))) (cursor, (l, (area, (list, tt))))).ensures tt r (moved, (l, (area, (after, tt))))
-        ≡ fact 𝓤 (LentRowEnsures l area.now cursor.now moved.now list.now after.now r)
-    lent_row_ensures list after r = refl
+    pub lent_row_ensures : (how : How) (list after : MutBor (List Cell)) (r : Result (Option ℕ) Refusal)
+        → (lent_next_row.clauses 𝓛 mem run (κ, (κ', (κ'', tt))) (cursor, (l, (area, (how, (list, tt)))))).ensures tt r (moved, (l, (area, (how, (after, tt)))))
+        ≡ fact 𝓤 (LentRowEnsures l area.now cursor.now moved.now how list.now after.now r)
+    lent_row_ensures how list after r = refl
 
     pub lent_seek_ensures : (row : ℕ) (r : Result Unit Refusal)
         → (lent_seek_to_row.clauses 𝓛 mem run (κ, (κ', tt)) (cursor, (l, (area, (row, tt))))).ensures tt r (moved, (l, (area, (row, tt))))

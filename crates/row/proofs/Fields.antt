@@ -24,6 +24,7 @@ use Rattle.walk.specs.declared.Entry.TheVariants as E
 use Rattle.walk.specs.Plain.{column_of, field_of, cell_of, item_at, cells, entries_of, chosen, column_entries, column_size}
 use Rattle.walk.specs.Walk.{Gathered, all_cells, outside, before, gather}
 use Rattle.row.specs.declared.plan.FieldPlan.{FieldPlan}
+use Rattle.walk.specs.declared.Reading.TheVariants.{Plain}
 use Rattle.row.specs.Plan.{plan_of, field_plan, is_outside, planned_cell, plan_at, plan_for}
 
 -- ---- some cells
@@ -81,7 +82,7 @@ module _ (r c : ℕ) (v : ℕ → DataValue) where
 
 -- what is gathered of the field of column c by its plan f, and of the entries es after it
 abbrev pub gather_by : List ℕ → ℕ → FieldPlan → List Entry → Gathered
-gather_by a c f es = cond (is_outside f) (outside c) (before_all (cells_from (planned_cell a f) 0 f.n) (gather (drop f.skip es)))
+gather_by a c f es = cond (is_outside f) (outside c) (before_all (cells_from (planned_cell Plain a f) 0 f.n) (gather (drop f.skip es)))
 
 none_left : (j : ℕ) → 1 - suc j ≡ 0
 none_left j = omega arith

@@ -21,6 +21,7 @@ use Rattle.table.specs.Scan.{next_chosen}
 use Rattle.table.proofs.ToNext.{next_from_lem}
 use Rattle.refusal.specs.declared.Refusal.{Refusal}
 use Rattle.refusal.specs.declared.Refusal.TheVariants as R
+use Rattle.walk.specs.declared.Reading.TheVariants.{Plain}
 use Rattle.row.specs.Plan.{is_outside, planned_cell, left_of}
 use Rattle.row.proofs.Fields.{cells_from, cells_before, before_all, field_on, gather_by, plan_n, column_gathered}
 
@@ -87,5 +88,5 @@ module _ (l : BinTable) (a : List ℕ) (c : TableData) (s : Stepped (Option ℕ)
   left_on total skip k h i t =
       let f = field_on l a c s k skip in (
         left_size total skip k h i,
-        i.1 ∙ rw (later_on k skip h, t) (after_all (planned_cell a f) f.n total (later l a c (suc k) f.skip)),
+        i.1 ∙ rw (later_on k skip h, t) (after_all (planned_cell Plain a f) f.n total (later l a c (suc k) f.skip)),
       )

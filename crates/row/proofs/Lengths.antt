@@ -13,20 +13,21 @@ use Rattle.ascii.proofs.Cases.{either}
 use Rattle.layout.specs.declared.Column.{Column}
 use Rattle.cell.specs.declared.Cell.{Cell}
 use Rattle.layout.specs.Layout.{no_column}
+use Rattle.walk.specs.declared.Reading.{Reading}
 use Rattle.walk.specs.Plain.{chosen}
 use Rattle.table.specs.Scan.{next_chosen}
 use Rattle.table.proofs.ToNext.{to_next}
 use Rattle.row.specs.declared.plan.RowPlan.{RowPlan}
 use Rattle.row.specs.Plan.{field_plan, planned_cell, PlanOk, stored_at, plan_at, filled, RowFits}
 
-module _ (columns : List Column) (a : List ℕ) (p : RowPlan) where
-  pub filled_none : (c skip at : ℕ) (ys : List Cell) → filled columns a p c zero skip at ys ≡ ys
+module _ (columns : List Column) (a : List ℕ) (p : RowPlan) (mode : Reading) where
+  pub filled_none : (c skip at : ℕ) (ys : List Cell) → filled columns a p mode c zero skip at ys ≡ ys
   unfolding filled
   filled_none c skip at ys = refl
 
   pub filled_more : (c k skip at : ℕ) (ys : List Cell)
-      → filled columns a p c (suc k) skip at ys
-      ≡ filled columns a p (suc c) k (plan_at columns a p c skip).skip (at + (plan_at columns a p c skip).n) (stored_at (planned_cell a (plan_at columns a p c skip)) at (plan_at columns a p c skip).n ys)
+      → filled columns a p mode c (suc k) skip at ys
+      ≡ filled columns a p mode (suc c) k (plan_at columns a p c skip).skip (at + (plan_at columns a p c skip).n) (stored_at (planned_cell mode a (plan_at columns a p c skip)) at (plan_at columns a p c skip).n ys)
   unfolding filled
   filled_more c k skip at ys = refl
 
@@ -50,7 +51,7 @@ module _ (columns : List Column) (a : List ℕ) (p : RowPlan) where
   none_planned c skip e = rw e (zero-sub skip, sub-zero skip)
 
   filled_skip : (n c skip at : ℕ) (ys : List Cell) → chosen p.cursor.choice c ≡ false
-      → filled columns a p c (n - c) skip at ys ≡ filled columns a p (suc c) (n - suc c) skip at ys
+      → filled columns a p mode c (n - c) skip at ys ≡ filled columns a p mode (suc c) (n - suc c) skip at ys
   filled_skip n c skip at ys e =
       either (ltb c n)
       (λ t.
@@ -70,10 +71,10 @@ module _ (columns : List Column) (a : List ℕ) (p : RowPlan) where
       (λ t. let q : n - suc c ≡ 0 = omega (arith, ltb-false c n t) in rw q (fits_none (suc c) skip at m))
 
   module _ (n skip at c j : ℕ) (is : j ≡ next_chosen p.cursor.choice c) where
-    pub filled_next : (ys : List Cell) → filled columns a p c (n - c) skip at ys ≡ filled columns a p j (n - j) skip at ys
+    pub filled_next : (ys : List Cell) → filled columns a p mode c (n - c) skip at ys ≡ filled columns a p mode j (n - j) skip at ys
     filled_next ys =
         rw is
-        (to_next p.cursor.choice (λ (i : ℕ). filled columns a p c (n - c) skip at ys ≡ filled columns a p i (n - i) skip at ys)
+        (to_next p.cursor.choice (λ (i : ℕ). filled columns a p mode c (n - c) skip at ys ≡ filled columns a p mode i (n - i) skip at ys)
         (λ i e q. q ∙ filled_skip n i skip at ys e) c refl)
 
     pub fits_next : (m : ℕ) → RowFits columns a p c (n - c) skip at m → RowFits columns a p j (n - j) skip at m

@@ -18,6 +18,7 @@ use Rattle.layout.specs.declared.BinTable.{BinTable}
 use Rattle.cell.specs.declared.Cell.{Cell}
 use Rattle.walk.specs.declared.TableData.{TableData}
 use Rattle.walk.specs.declared.Stepped.{Stepped}
+use Rattle.walk.specs.declared.How.{How}
 use Rattle.walk.specs.Walk.{read_row}
 use Rattle.walk.specs.Step.{StepResult, cursor_step}
 use Rattle.row.specs.Plan.{result_of}
@@ -63,20 +64,20 @@ module _ {X : Type 0} (u : X) where
     pub looked : (zs : List X) (k : ℕ) → length zs ≡ length front → get_or (zs ++ back) (min k 512) u ≡ get_or zs k u
     looked zs k l = seen zs 512 (513 - min n 512) k (omega (arith, l, long, min-le_right n 512))
 
-module _ (l : BinTable) (a : List ℕ) (c : TableData) (u : Cell) (n m : ℕ) (at : m ≡ min n 512) (s : Stepped (Option ℕ)) (zs : List Cell)
-    (e : result_of s zs ≡ cursor_step l a c (read_row (take m (made u)))) where
-  read : result_of s zs ≡ own_read l a c u n
+module _ (l : BinTable) (a : List ℕ) (c : TableData) (how : How) (u : Cell) (n m : ℕ) (at : m ≡ min n 512) (s : Stepped (Option ℕ)) (zs : List Cell)
+    (e : result_of s zs ≡ cursor_step l a c (read_row how (take m (made u)))) where
+  read : result_of s zs ≡ own_read l a c how u n
   read = rw (at, lent u n) at e
 
-  list_is : zs ≡ (own_read l a c u n).list
+  list_is : zs ≡ (own_read l a c how u n).list
   list_is = ap (λ (r : StepResult). r.list) read
 
-  pub own_step : result_of s (own_read l a c u n).list ≡ own_read l a c u n
-  own_step = subst (λ (ys : List Cell). result_of s ys ≡ own_read l a c u n) list_is read
+  pub own_step : result_of s (own_read l a c how u n).list ≡ own_read l a c how u n
+  own_step = subst (λ (ys : List Cell). result_of s ys ≡ own_read l a c how u n) list_is read
 
   -- whatever stands for a place outside
   pub own_cell : (d : Cell) (k i : ℕ) → i ≡ min k 512 → length zs ≡ length (take m (made u))
-      → get_or (zs ++ drop m (made u)) i d ≡ get_or (own_read l a c u n).list k u
+      → get_or (zs ++ drop m (made u)) i d ≡ get_or (own_read l a c how u n).list k u
   own_cell d k i w q =
       let f : length zs ≡ length (front u n) = rw (at, lent u n) at q in
       rw (at, left u n, w)

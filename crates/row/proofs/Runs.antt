@@ -7,6 +7,8 @@ use mathlib.Core.Path.{◌≡◌, refl, sym, ap, ap₂, subst, ◌∙◌}
 use mathlib.Core.Bool.{Bool, true, cond}
 use mathlib.Core.List.{List, [], ◌∷◌, map}
 use lib.IntN.{pos}
+use Rattle.std.specs.Float.{binary64}
+use Rattle.std.specs.Float.Ieee.{add, mul, eq, of_int, of_bits, to_bits, round}
 use Rattle.ascii.specs.Text.{bytes}
 use Rattle.tform.specs.Width.{among, letter_width}
 use Rattle.layout.specs.declared.BinTable.{BinTable}
@@ -19,15 +21,20 @@ use Rattle.cell.specs.declared.DataValue.TheVariants as D
 use Rattle.cell.specs.declared.Cell.{Cell}
 use Rattle.cell.specs.Item.{word, item}
 use Rattle.cell.specs.Field.{field}
+use Rattle.cell.specs.Scaled.{shifts_by}
 use Rattle.walk.specs.declared.TableData.{TableData}
 use Rattle.walk.specs.declared.Stepped.{Stepped}
+use Rattle.walk.specs.declared.How.{How}
 use Rattle.walk.specs.Plain.{field_of, cell_of, cells, entries_of, chosen, column_entries, columns_entries, row_entries}
+use Rattle.walk.specs.Scaled.{plain, scaled}
+use Rattle.walk.specs.Readings.{plainly, in_results}
 use Rattle.walk.specs.Walk.{Step, read_cell, read_row, seek, Reply, got_cell, got_row, sought, refused, gather, place_ok, walk_step}
 use Rattle.walk.specs.Walk as W
 use Rattle.walk.specs.Step.{fits, choice_ok, belongs, cursor_at, Selection, choice_of, opened, not_opened, open_with, opening_of, StepResult, with_cursor, cursor_step, run, plain_walk, cell_result, row_result, seek_result}
 use Rattle.walk.specs.Agree.{Agree, Counted, SameSteps}
 use Rattle.walk.proofs.Answers.{cell_answer, row_answer, seek_answer, answer_stands, opening_decides}
 use Rattle.walk.proofs.Isolation.{isolation}
+use Rattle.walk.proofs.Readings.{run_in}
 use Rattle.walk.proofs.Examples.{area}
 use Rattle.walk.proofs.Together.{table, cursor}
 use Rattle.row.specs.Ran.{Ran, no_steps, next, read_row_by_value, seek_to_row, lent_next, lent_next_row, lent_seek_to_row, SameRuns, Isolated, EntryEnsures, OpenEnsures}
@@ -48,32 +55,33 @@ module _ (l : BinTable) (a : List ℕ) where
   -- whatever the calls returned and left is what `run` gives
   pub ran_run : {c : TableData} {xs : List Step} {os : List StepResult} → Ran l a c xs os → os ≡ run l a c xs
   ran_run no_steps = ends _
-  ran_run (next r e rest) = then _ _ _ _ _ e (ran_run rest)
-  ran_run (read_row_by_value list after r e rest) = then _ _ _ _ _ e (ran_run rest)
+  ran_run (next how r e rest) = then _ _ _ _ _ e (ran_run rest)
+  ran_run (read_row_by_value how list after r e rest) = then _ _ _ _ _ e (ran_run rest)
   ran_run (seek_to_row row r e rest) = then _ _ _ _ _ e (ran_run rest)
-  ran_run (lent_next moved r e rest) = then _ _ _ _ _ e (ran_run rest)
-  ran_run (lent_next_row moved list after r e rest) = then _ _ _ _ _ e (ran_run rest)
+  ran_run (lent_next moved how r e rest) = then _ _ _ _ _ e (ran_run rest)
+  ran_run (lent_next_row moved how list after r e rest) = then _ _ _ _ _ e (ran_run rest)
   ran_run (lent_seek_to_row moved row r e rest) = then _ _ _ _ _ e (ran_run rest)
 
   -- and every list of steps has such a run: for each result there is an answer that a call may return
-  cell_call : TableData → Stepped (Option Cell)
-  cell_call c = let o = cursor_step l a c read_cell in record { cursor = o.cursor; answer = cell_answer o.reply }
+  cell_call : TableData → How → Stepped (Option Cell)
+  cell_call c how = let o = cursor_step l a c (read_cell how) in record { cursor = o.cursor; answer = cell_answer o.reply }
 
-  cell_called : (c : TableData) → cell_result (cell_call c).cursor (cell_call c).answer ≡ cursor_step l a c read_cell
+  cell_called : (c : TableData) (how : How) → cell_result (cell_call c how).cursor (cell_call c how).answer ≡ cursor_step l a c (read_cell how)
   unfolding cell_call
-  cell_called c =
-      let w = answer_stands l a c read_cell in
-      ap₂ (λ (y : Reply) (list : List Cell). record { reply = y; cursor = (cursor_step l a c read_cell).cursor; list = list }) w.0 w.1
+  cell_called c how =
+      let w = answer_stands l a c (read_cell how) in
+      ap₂ (λ (y : Reply) (list : List Cell). record { reply = y; cursor = (cursor_step l a c (read_cell how)).cursor; list = list }) w.0 w.1
 
-  row_call : TableData → List Cell → Stepped (Option ℕ)
-  row_call c list = let o = cursor_step l a c (read_row list) in record { cursor = o.cursor; answer = row_answer o.reply }
+  row_call : TableData → How → List Cell → Stepped (Option ℕ)
+  row_call c how list = let o = cursor_step l a c (read_row how list) in record { cursor = o.cursor; answer = row_answer o.reply }
 
-  row_called : (c : TableData) (list : List Cell)
-      → row_result (row_call c list).cursor (row_call c list).answer (cursor_step l a c (read_row list)).list ≡ cursor_step l a c (read_row list)
+  row_called : (c : TableData) (how : How) (list : List Cell)
+      → row_result (row_call c how list).cursor (row_call c how list).answer (cursor_step l a c (read_row how list)).list
+      ≡ cursor_step l a c (read_row how list)
   unfolding row_call
-  row_called c list =
-      let o = cursor_step l a c (read_row list) in
-      ap {B = StepResult} (λ (y : Reply). record { reply = y; cursor = o.cursor; list = o.list }) (answer_stands l a c (read_row list)).0
+  row_called c how list =
+      let o = cursor_step l a c (read_row how list) in
+      ap {B = StepResult} (λ (y : Reply). record { reply = y; cursor = o.cursor; list = o.list }) (answer_stands l a c (read_row how list)).0
 
   seek_call : TableData → ℕ → Stepped Unit
   seek_call c r = let o = cursor_step l a c (seek r) in record { cursor = o.cursor; answer = seek_answer o.reply }
@@ -96,11 +104,13 @@ module _ (l : BinTable) (a : List ℕ) where
   pub ran_all : (c : TableData) (xs : List Step) → Ran l a c xs (run l a c xs)
   unfolding cell_call row_call seek_call
   ran_all c [] = none_more c
-  ran_all c (read_cell ∷ xs) =
-      one_more c read_cell xs _ (cell_called c) (next (cell_call c) (cell_called c) (ran_all (cursor_step l a c read_cell).cursor xs))
-  ran_all c (read_row list ∷ xs) =
-      let o = cursor_step l a c (read_row list) in
-      one_more c (read_row list) xs _ (row_called c list) (read_row_by_value list o.list (row_call c list) (row_called c list) (ran_all o.cursor xs))
+  ran_all c (read_cell how ∷ xs) =
+      let o = cursor_step l a c (read_cell how) in
+      one_more c (read_cell how) xs _ (cell_called c how) (next how (cell_call c how) (cell_called c how) (ran_all o.cursor xs))
+  ran_all c (read_row how list ∷ xs) =
+      let o = cursor_step l a c (read_row how list) in
+      one_more c (read_row how list) xs _ (row_called c how list)
+      (read_row_by_value how list o.list (row_call c how list) (row_called c how list) (ran_all o.cursor xs))
   ran_all c (seek r ∷ xs) =
       one_more c (seek r) xs _ (seek_called c r) (seek_to_row r (seek_call c r) (seek_called c r) (ran_all (cursor_step l a c (seek r)).cursor xs))
 
@@ -108,8 +118,9 @@ module _ (l : BinTable) (a : List ℕ) where
 
 -- the claim over the definitions, about the code's runs
 same_runs : (la lb : BinTable) (a b : List ℕ) (sel : Selection) (heap : Bool) (ca cb : TableData) (xs : List Step) (os os' : List StepResult)
-    → la ≡ lb → ca ≡ cb → SameSteps la a b sel heap ca xs → Ran la a ca xs os → Ran lb b cb xs os' → SameRuns la lb a b sel heap xs os os'
-same_runs la lb a b sel heap ca cb xs os os' layouts cursors d ra rb =
+    → la ≡ lb → ca ≡ cb → SameSteps la a b sel heap ca xs → SameSteps la a b sel heap ca (map plainly xs)
+    → Ran la a ca xs os → Ran lb b cb xs os' → SameRuns la lb a b sel heap xs os os'
+same_runs la lb a b sel heap ca cb xs os os' layouts cursors d p ra rb =
     let sa : os ≡ run la a ca xs = ran_run la a ra in
     let sb : os' ≡ run la b ca xs =
     ran_run lb b rb ∙ ap (λ (l : BinTable). run l b cb xs) (sym layouts) ∙ ap (λ (c : TableData). run la b c xs) (sym cursors) in
@@ -118,6 +129,9 @@ same_runs la lb a b sel heap ca cb xs os os' layouts cursors d ra rb =
       walked_a = sa ∙ d.walked_a;
       walked_b = sb ∙ d.walked_b
           ∙ ap (λ (l : BinTable). map (with_cursor (choice_of l sel) heap) (plain_walk l b (choice_of l sel) heap xs)) layouts;
+      read_a = sa ∙ run_in la a ca xs ∙ ap (in_results la xs) p.walked_a;
+      read_b = sb ∙ run_in la b ca xs ∙ ap (in_results la xs) p.walked_b
+          ∙ ap (λ (l : BinTable). in_results l xs (map (with_cursor (choice_of l sel) heap) (plain_walk l b (choice_of l sel) heap (map plainly xs)))) layouts;
       counted_a = subst (Counted 0 xs) (sym sa) d.counted_a;
       counted_b = subst (Counted 0 xs) (sym sb) d.counted_b;
     }
@@ -140,7 +154,8 @@ runs_isolated h a b sel heap la lb oa ob entry_a entry_b opened_a opened_b agree
       both_opened = λ cursor o. sym (opening_decides oa ob openings) ∙ o;
       runs = λ cursor o xs os os'.
           same_runs la lb a b sel heap cursor cursor xs os os' layouts refl
-          ((isolation h a b sel heap xs la lb ea eb agree).1.1 cursor (sym opened_a ∙ ap opening_of o));
+          ((isolation h a b sel heap xs la lb ea eb agree).1.1 cursor (sym opened_a ∙ ap opening_of o))
+          ((isolation h a b sel heap (map plainly xs) la lb ea eb agree).1.1 cursor (sym opened_a ∙ ap opening_of o));
     }
 
 -- opening looks at a selection through its choice alone, so two selections of the same columns may be taken: all columns and a list of all, for one
@@ -157,8 +172,8 @@ pub choices_isolated : (h a b : List ℕ) (sel sel' : Selection) (heap : Bool) (
 choices_isolated h a b sel sel' heap la lb oa ob entry_a entry_b opened_a opened_b e agree =
     runs_isolated h a b sel heap la lb oa ob entry_a entry_b opened_a (opened_b ∙ choice_opens lb b sel sel' heap e) agree
 
--- ---- a run of all six calls, on the request's example: a cell, the rest of its row, a row that the table lacks, a seek back, a list that is too
--- short, and the first cell again
+-- ---- a run of all six calls, on the request's example: a cell, the rest of its row scaled, a row that the table lacks, a seek back, a list that is too
+-- short, and the first cell again, scaled
 
 abbrev place : ℕ → ℕ → ℕ → TableData
 place row passed count = cursor_at 3 true (record { row = row; passed = passed; count = count })
@@ -166,8 +181,12 @@ place row passed count = cursor_at 3 true (record { row = row; passed = passed; 
 abbrev cell_0 : Cell
 cell_0 = cell_of 0 0 0 (D.Short (pos 1))
 
-abbrev cell_1 : Cell
-cell_1 = cell_of 0 1 0 (D.Integer (pos 8000))
+-- the two, scaled by the factor 1 and the zero 0
+abbrev scaled_0 : Cell
+scaled_0 = cell_of 0 0 0 (D.Double (of_bits binary64 0x3ff0000000000000) 0x3ff0000000000000)
+
+abbrev scaled_1 : Cell
+scaled_1 = cell_of 0 1 0 (D.Double (of_bits binary64 0x40bf400000000000) 0x40bf400000000000)
 
 abbrev filler : Cell
 filler = cell_of 7 7 7 (D.Bit 7)
@@ -175,19 +194,20 @@ filler = cell_of 7 7 7 (D.Bit 7)
 abbrev result : Reply → TableData → List Cell → StepResult
 result r c list = record { reply = r; cursor = c; list = list }
 
-pub some_calls : Ran table area cursor (read_cell ∷ read_row (filler ∷ filler ∷ []) ∷ seek 2 ∷ seek 0 ∷ read_row (filler ∷ []) ∷ read_cell ∷ []) (
+pub some_calls : Ran table area cursor
+    (read_cell plain ∷ read_row scaled (filler ∷ filler ∷ []) ∷ seek 2 ∷ seek 0 ∷ read_row scaled (filler ∷ []) ∷ read_cell scaled ∷ []) (
     result (got_cell cell_0) (place 0 1 1) []
-    ∷ result (got_row 1) (place 1 0 2) (cell_1 ∷ filler ∷ [])
+    ∷ result (got_row 1) (place 1 0 2) (scaled_1 ∷ filler ∷ [])
     ∷ result (refused 12 2) (place 1 0 2) []
     ∷ result sought (place 0 0 2) []
     ∷ result (refused 14 2) (place 0 0 2) (filler ∷ [])
-    ∷ result (got_cell cell_0) (place 0 1 3) []
+    ∷ result (got_cell scaled_0) (place 0 1 3) []
     ∷ [])
-unfolding table cursor_step belongs fits layout_ok columns_ok choice_ok place_ok walk_step W.next gather row_entries columns_entries column_entries entries_of cells chosen field_of field item word letter_width among bytes
+unfolding add mul eq of_int of_bits to_bits round shifts_by table cursor_step belongs fits layout_ok columns_ok choice_ok place_ok walk_step W.next gather row_entries columns_entries column_entries entries_of cells chosen field_of field item word letter_width among bytes
 some_calls =
-    next (record { cursor = place 0 1 1; answer = Ok (Some cell_0) }) refl
-    (lent_next_row (place 1 0 2) (filler ∷ filler ∷ []) (cell_1 ∷ filler ∷ []) (Ok (Some 1)) refl
+    next plain (record { cursor = place 0 1 1; answer = Ok (Some cell_0) }) refl
+    (lent_next_row (place 1 0 2) scaled (filler ∷ filler ∷ []) (scaled_1 ∷ filler ∷ []) (Ok (Some 1)) refl
     (lent_seek_to_row (place 1 0 2) 2 (Err (R.NoSuchRow 2)) refl
     (seek_to_row 0 (record { cursor = place 0 0 2; answer = Ok tt }) refl
-    (read_row_by_value (filler ∷ []) (filler ∷ []) (record { cursor = place 0 0 2; answer = Err (R.ShortList 2) }) refl
-    (lent_next (place 0 1 3) (Ok (Some cell_0)) refl no_steps)))))
+    (read_row_by_value scaled (filler ∷ []) (filler ∷ []) (record { cursor = place 0 0 2; answer = Err (R.ShortList 2) }) refl
+    (lent_next (place 0 1 3) scaled (Ok (Some scaled_0)) refl no_steps)))))

@@ -19,6 +19,9 @@ use Rattle.cell.specs.Field.{no_items, field, size_of}
 use Rattle.walk.specs.declared.TableData.{TableData}
 use Rattle.walk.specs.declared.Stepped.{Stepped}
 use Rattle.walk.specs.Plain.{cell_of, item_at, chosen, row_entries}
+use Rattle.walk.specs.declared.Reading.{Reading}
+use Rattle.walk.specs.Scaled.{plain}
+use Rattle.walk.specs.Readings.{value_as}
 use Rattle.walk.specs.Walk.{read_row, placed, grown, Gathered, all_cells, outside, rest}
 use Rattle.walk.specs.Step.{belongs, state_of, cursor_at, StepResult, row_result}
 use Rattle.table.specs.Scan.{span_of}
@@ -52,12 +55,12 @@ outside_by F.OutsideHeap k = ltb 0 k
 abbrev pub is_outside : FieldPlan → Bool
 is_outside p = outside_by p.field p.n
 
--- cell i of a field's plan, and of one of items that lie from byte `start` on
-abbrev pub planned_cell : List ℕ → FieldPlan → ℕ → Cell
-planned_cell a p i = cell_of p.row p.c (p.first + i) (entry_value p.column a p.field (p.first + i))
+-- cell i of a field's plan in a reading, and of one of items that lie from byte `start` on
+abbrev pub planned_cell : Reading → List ℕ → FieldPlan → ℕ → Cell
+planned_cell m a p i = cell_of p.row p.c (p.first + i) (value_as m p.column.scaling (entry_value p.column a p.field (p.first + i)))
 
-abbrev pub item_cell : List ℕ → FieldPlan → VariableArrayTy → ℕ → ℕ → Cell
-item_cell a p ty start i = cell_of p.row p.c (p.first + i) (item_at p.column a ty start (p.first + i))
+abbrev pub item_cell : Reading → List ℕ → FieldPlan → VariableArrayTy → ℕ → ℕ → Cell
+item_cell m a p ty start i = cell_of p.row p.c (p.first + i) (value_as m p.column.scaling (item_at p.column a ty start (p.first + i)))
 
 -- the places of the items with n indexes from `first` on are numbers of 64 bits
 abbrev pub ItemsFit : VariableArrayTy → ℕ → ℕ → ℕ → Type 0
@@ -83,12 +86,12 @@ module _ (columns : List Column) (a : List ℕ) (p : RowPlan) where
   abbrev pub plan_at : ℕ → ℕ → FieldPlan
   plan_at c skip = field_plan a p (get_or columns c no_column) c skip
 
-  -- the list after the k columns from column c on, the first of them stored from `at` on, where `skip` entries are still to be passed
-  unfoldable pub filled : ℕ → ℕ → ℕ → ℕ → List Cell → List Cell
-  filled c zero skip at ys = ys
-  filled c (suc k) skip at ys =
+  -- the list after the k columns from column c on, in a reading, the first of them stored from `at` on, where `skip` entries are still to be passed
+  unfoldable pub filled : Reading → ℕ → ℕ → ℕ → ℕ → List Cell → List Cell
+  filled m c zero skip at ys = ys
+  filled m c (suc k) skip at ys =
       let f = plan_at c skip in
-      filled (suc c) k f.skip (at + f.n) (stored_at (planned_cell a f) at f.n ys)
+      filled m (suc c) k f.skip (at + f.n) (stored_at (planned_cell m a f) at f.n ys)
 
   -- each of these fields can be planned, and its cells lie in a list of m cells
   unfoldable pub RowFits : ℕ → ℕ → ℕ → ℕ → ℕ → Type 0
@@ -127,7 +130,7 @@ no_plan c r = record { tfields = 0; cursor = c; span = record { start = 0; heap 
 
 -- the cursor at the next row's start, with n more cells counted
 abbrev pub next_row : TableData → ℕ → TableData
-next_row c n = cursor_at c.choice c.heap (placed (grown (state_of c) (read_row []) n) (suc c.row) 0)
+next_row c n = cursor_at c.choice c.heap (placed (grown (state_of c) (read_row plain []) n) (suc c.row) 0)
 
 -- the plan for what is left and a list of m cells: 13 comes before 14
 abbrev pub rest_plan : BinTable → TableData → ℕ → Result ℕ Refusal → RowPlan

@@ -5,7 +5,7 @@ ghost use Rattle.row.specs.Owned.{own_read};
 
 use cell::Cell;
 use layout::BinTable;
-use walk::{Stepped, TableData};
+use walk::{How, Stepped, TableData};
 
 // The most cells that an owner lends: its list is a local array, whose length is fixed. A row with more cells left
 // is refused with 14; `read_row` itself takes a list of any length.
@@ -24,20 +24,21 @@ pub fn row_cell(
     layout: BinTable,
     area: &[u8],
     cursor: TableData,
+    how: How,
     filler: Cell,
     n: usize,
     k: usize,
 ) -> RowCell
     ensures step { row_result result.stepped.cursor result.stepped.answer
-        (own_read layout area.now cursor filler n).list
-        ≡ own_read layout area.now cursor filler n }
-    ensures cell { result.cell ≡ get_or (own_read layout area.now cursor filler n).list k filler }
+        (own_read layout area.now cursor how filler n).list
+        ≡ own_read layout area.now cursor how filler n }
+    ensures cell { result.cell ≡ get_or (own_read layout area.now cursor how filler n).list k filler }
 {
     let mut own = cursor;
     // One cell more than is lent at most, so that there is one that is not stored to.
     let mut list = [filler; LIST_LIMIT + 1];
     let len = n.min(LIST_LIMIT);
-    let answer = super::next_row(&mut own, layout, area, &mut list[..len]);
+    let answer = super::next_row(&mut own, layout, area, how, &mut list[..len]);
     let i = k.min(LIST_LIMIT);
     let cell = list[i];
     let stepped = Stepped {

@@ -10,7 +10,7 @@ ghost use Rattle.row.specs.Plan.{plan_of, field_plan, is_outside, left_of, plan_
 ghost use Rattle.row.specs.Plan.{rest_plan, row_plan};
 
 use cell::{Field, Heap};
-use layout::{BinTable, Column, TFIELDS_LIMIT};
+use layout::{BinTable, Column};
 use refusal::Refusal;
 use table::pass::Sizes;
 use table::{RowSpan, TableRow};
@@ -38,14 +38,6 @@ pub struct FieldPlan {
     pub first: u64,
     pub n: usize,
     pub skip: u64,
-}
-
-// The columns of a layout, as one value: the loop that stores then copies the columns alone, and once a row
-// (docs/DECISIONS.md).
-pub fn columns(layout: BinTable) -> [Column; TFIELDS_LIMIT]
-    ensures { result ≡ layout.columns }
-{
-    layout.columns
 }
 
 // The cells of a field that are left after the first `skip` entries.
@@ -188,13 +180,13 @@ fn rest_plan(row: &TableRow, rest: Result<u64, Refusal>, room: usize) -> RowPlan
 
 // The plan of a row read, whatever the row, the place and the cursor are.
 #[tactic(auto, using(walk::proofs::Steps::belongs_fits, walk::proofs::Inside::fits_layout), unfolding(crate::specs::Plan::row_plan))]
-fn any_plan(layout: BinTable, area: &[u8], cursor: TableData, room: usize) -> RowPlan
-    ensures { result ≡ row_plan layout area.now cursor room }
+fn any_plan(layout: &BinTable, area: &[u8], cursor: TableData, room: usize) -> RowPlan
+    ensures { result ≡ row_plan layout.now area.now cursor room }
 {
-    if table::belongs(layout, area, cursor) {
+    if table::belongs(*layout, area, cursor) {
         if cursor.row < layout.naxis2 {
             let row = TableRow {
-                layout: &layout,
+                layout,
                 area,
                 cursor,
             };
@@ -207,13 +199,13 @@ fn any_plan(layout: BinTable, area: &[u8], cursor: TableData, room: usize) -> Ro
 
 // The plan of a row read into a list of `room` cells. One pass over the columns plans a row without descriptors
 // from its start; all else is left to `any_plan`, by which alone a row of 41 columns takes 1.4 times the instructions.
-pub fn row_plan(layout: BinTable, area: &[u8], cursor: TableData, room: usize) -> RowPlan
-    ensures { result ≡ row_plan layout area.now cursor room }
+pub fn row_plan(layout: &BinTable, area: &[u8], cursor: TableData, room: usize) -> RowPlan
+    ensures { result ≡ row_plan layout.now area.now cursor room }
 {
     if cursor.passed != 0 {
         return any_plan(layout, area, cursor, room);
     }
-    if !table::pass::ready(Sizes::from(&layout), area.len() as u64, cursor) {
+    if !table::pass::ready(Sizes::from(layout), area.len() as u64, cursor) {
         return any_plan(layout, area, cursor, room);
     }
     let mut at: u64 = 0;
@@ -229,7 +221,7 @@ pub fn row_plan(layout: BinTable, area: &[u8], cursor: TableData, room: usize) -
     }
     if at == layout.naxis1 {
         let row = TableRow {
-            layout: &layout,
+            layout,
             area,
             cursor,
         };

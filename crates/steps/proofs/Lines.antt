@@ -69,9 +69,12 @@ module _ (s : List ℕ) (at : ℕ) where
       rw (e, take-add at (suc n) s) (feeds_append (take at s) (take (suc n) (drop at s))
       ∙ ap (λ (k : ℕ). line_feeds (take at s) + k) (first_feed (drop at s) (omega (arith, length-drop at s))))
 
--- a line lies within its text
+-- a line, or a word, lies within its text
+pub before_inside : (e n : ℕ) (s : List ℕ) → n ≡ before e s → n ≤ length s
+before_inside e n s h = omega (arith, h, front_le (λ (b : ℕ). not (eqb b e)) s)
+
 pub before_within : (e n : ℕ) (s : List ℕ) → n ≡ before e s → n ≡ length (take n s)
-before_within e n s h = sym (length-take-le n s (omega (arith, h, front_le (λ (b : ℕ). not (eqb b e)) s)))
+before_within e n s h = sym (length-take-le n s (before_inside e n s h))
 
 pub feeds_count : (s : List ℕ) → count_by (λ (b : ℕ). eqb b 10) s ≡ line_feeds s
 unfolding line_feeds

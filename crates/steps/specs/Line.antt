@@ -3,9 +3,11 @@
 use Rattle.std.specs.Prelude.{ℕ, Bool, true, false, cond, List, [], ◌∷◌, length, take, drop, set, leb, Option, Some, None}
 use Prim.Native.String.{String}
 use Rattle.ascii.specs.Text.{bytes, same}
+use Rattle.walk.specs.declared.How.{How}
+use Rattle.walk.specs.Scaled.{plain, scaled}
 use Rattle.steps.specs.declared.Command.{Command}
 use Rattle.steps.specs.declared.Command.TheVariants as C
-use Rattle.steps.specs.Split.{parts}
+use Rattle.steps.specs.Split.{parts, before}
 use Rattle.ascii.specs.Number.{number}
 use Rattle.steps.specs.Numbers.{Numbers, all_of, not_all, numbers}
 
@@ -14,8 +16,8 @@ pub data Says : Type 0 where
   choose_all : Says
   choose : List ℕ → Says
   heap : Bool → Says
-  cell : Says
-  row : ℕ → Says
+  cell : How → Says
+  row : How → ℕ → Says
   seek : ℕ → Says
   bad : Says
 
@@ -23,9 +25,14 @@ pub data Says : Type 0 where
 abbrev pub row_limit : ℕ
 row_limit = 512
 
-abbrev pub row_by : Option ℕ → Says
-row_by (Some n) = cond (leb n row_limit) (row n) bad
-row_by None = bad
+abbrev pub cell_by : Option How → Says
+cell_by (Some how) = cell how
+cell_by None = bad
+
+abbrev pub row_by : Option ℕ → Option How → Says
+row_by (Some n) (Some how) = cond (leb n row_limit) (row how n) bad
+row_by (Some n) None = bad
+row_by None how = bad
 
 abbrev pub seek_by : Option ℕ → Says
 seek_by (Some n) = seek n
@@ -43,11 +50,19 @@ is w s = same s (bytes w)
 abbrev pub begins : String → List ℕ → Bool
 begins w s = same (take (length (bytes w)) s) (bytes w)
 
+-- the reading, by what stands after `cell` or after the N of `row N`: nothing, or a space and the word `scaled`
+unfoldable pub how_of : List ℕ → Option How
+how_of s = cond (is "" s) (Some plain) (cond (is " scaled" s) (Some scaled) None)
+
+-- `row` with this after it: N goes up to the first space
+abbrev pub row_words : List ℕ → Says
+row_words s = row_by (number (take (before 32 s) s)) (how_of (drop (before 32 s) s))
+
 -- anything else, an empty line too, is a bad line. `parts` are never none, so there is one index or more
 unfoldable pub says : List ℕ → Says
 says s =
-    cond (is "cell" s) cell
-    (cond (begins "row " s) (row_by (number (drop 4 s)))
+    cond (begins "cell" s) (cell_by (how_of (drop 4 s)))
+    (cond (begins "row " s) (row_words (drop 4 s))
     (cond (begins "seek " s) (seek_by (number (drop 5 s)))
     (cond (is "choose all" s) choose_all
     (cond (begins "choose " s) (choose_by (numbers (parts (drop 7 s))))
@@ -59,8 +74,8 @@ abbrev pub command_of : Says → Option Command
 command_of choose_all = Some C.ChooseAll
 command_of (choose ns) = Some C.Choose
 command_of (heap on) = Some (C.Heap on)
-command_of cell = Some C.Cell
-command_of (row n) = Some (C.Row n)
+command_of (cell how) = Some (C.Cell how)
+command_of (row how n) = Some (C.Row how n)
 command_of (seek r) = Some (C.Seek r)
 command_of bad = None
 
@@ -69,8 +84,8 @@ abbrev pub indexes_of : Says → List ℕ
 indexes_of choose_all = []
 indexes_of (choose ns) = ns
 indexes_of (heap on) = []
-indexes_of cell = []
-indexes_of (row n) = []
+indexes_of (cell how) = []
+indexes_of (row how n) = []
 indexes_of (seek r) = []
 indexes_of bad = []
 

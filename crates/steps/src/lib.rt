@@ -7,8 +7,10 @@ ghost use Rattle.std.specs.Prelude.{◌≡◌, true, false, cond, drop};
 ghost use Rattle.steps.specs.Split.{before, line_at, line_feeds, parts};
 ghost use Rattle.ascii.specs.Number.{number};
 ghost use Rattle.steps.specs.Numbers.{numbers};
-ghost use Rattle.steps.specs.Line.{says, row_by, seek_by, choose_all, choose_by, heap, bad, is, begins};
+ghost use Rattle.steps.specs.Line.{says, row_words, how_of, seek_by, choose_all, choose_by, heap, bad, is, begins};
 ghost use Rattle.steps.specs.Line.{command_of, indexes_of, in_places};
+
+use walk::{How, Reading};
 
 // The byte that ends a line.
 const LINE_FEED: u8 = b'\n';
@@ -22,16 +24,23 @@ pub enum Command {
     ChooseAll,
     Choose,
     Heap(bool),
-    Cell,
-    Row(usize),
+    Cell(How),
+    Row { how: How, cells: usize },
     Seek(usize),
+}
+
+// How many bytes stand before the first one that is this.
+fn len_before(text: &[u8], end: u8) -> usize
+    ensures { result ≡ before end text.now }
+{
+    text.iter().take_while(|byte| **byte != end).count()
 }
 
 // The length of the line at the front of a text, without its line feed.
 pub fn line_len(text: &[u8]) -> usize
     ensures { result ≡ before 10 text.now }
 {
-    text.iter().take_while(|byte| **byte != LINE_FEED).count()
+    len_before(text, LINE_FEED)
 }
 
 // The line that begins at a place of a text, without its line feed; empty where the text has no such place.
@@ -57,8 +66,8 @@ pub fn line_feeds(text: &[u8]) -> usize
 pub fn parse_command(line: &[u8]) -> Option<Command>
     ensures { result ≡ command_of (says line.now) }
 {
-    if ascii::same_bytes(line, b"cell") {
-        return Some(Command::Cell);
+    if let Some(how) = line.strip_prefix(b"cell") {
+        return Some(Command::Cell(parse_how(how)?));
     }
     if let Some(cells) = line.strip_prefix(b"row ") {
         return row_command(cells);
@@ -69,12 +78,30 @@ pub fn parse_command(line: &[u8]) -> Option<Command>
     other_command(line)
 }
 
-// `row` with this after it.
-fn row_command(text: &[u8]) -> Option<Command>
-    ensures { result ≡ command_of (row_by (number text.now)) }
+// The reading, by what stands after `cell` or after the N of `row N`.
+#[tactic(auto, unfolding(ascii::specs::Text::bytes, ascii::specs::Text::same, crate::specs::Line::how_of))]
+fn parse_how(text: &[u8]) -> Option<How>
+    ensures { result ≡ how_of text.now }
 {
-    let cells = ascii::digits::parse_number(text)?;
-    (cells <= ROW_LIMIT).then_some(Command::Row(cells))
+    if ascii::same_bytes(text, b"") {
+        return Some(How {
+            reading: Reading::Plain,
+        });
+    }
+    ascii::same_bytes(text, b" scaled").then_some(How {
+        reading: Reading::Scaled,
+    })
+}
+
+// `row` with this after it.
+#[tactic(auto, using(crate::proofs::Lines::before_inside, crate::proofs::Lines::before_within))]
+fn row_command(text: &[u8]) -> Option<Command>
+    ensures { result ≡ command_of (row_words text.now) }
+{
+    let len = len_before(text, b' ');
+    let cells = ascii::digits::parse_number(&text[..len])?;
+    let how = parse_how(&text[len..])?;
+    (cells <= ROW_LIMIT).then_some(Command::Row { how, cells })
 }
 
 // `seek` with this after it.

@@ -8,3 +8,4 @@ pub mod Whole
 pub mod Pieces
 pub mod Front
 pub mod Back
+pub mod ScaledPage

@@ -7,7 +7,9 @@ use Rattle.ascii.specs.Number.{decimal_text}
 use Rattle.refusal.specs.declared.Refusal.{Refusal}
 use Rattle.refusal.specs.Refusal.{number_of, place_of}
 use Rattle.words.specs.Words.{words_with}
+use Rattle.tform.specs.Width.{form_letter}
 use Rattle.layout.specs.declared.BinTable.{BinTable}
+use Rattle.walk.specs.Plain.{column_of}
 use Rattle.subcommand.specs.declared.message.Message.{Message}
 
 -- how the program is used
@@ -59,11 +61,18 @@ abbrev pub is_column : BinTable → Option ℕ → Bool
 is_column l None = false
 is_column l (Some c) = ltb c l.tfields
 
+-- whether its form's letter is E (69)
+abbrev pub is_e : BinTable → Option ℕ → Bool
+is_e l None = false
+is_e l (Some c) = eqb (form_letter (column_of l c).form) 69
+
 -- why there is no page in an edition of a column that was sought
 unfoldable pub no_page_text : BinTable → Option ℕ → ℕ → List ℕ
 no_page_text l c edition =
     cond (eqb edition 1 || eqb edition 2)
-    (cond (is_column l c) (codes "the column is not of form E (PE is another form)")
+    (cond (is_column l c)
+    (cond (is_e l c) (codes "the column has TSCALn or TZEROn, and such a column has no page")
+    (codes "the column is not of form E (PE is another form)"))
     (codes "the table has no such column"))
     (codes "there is no edition but 1 and 2")
 

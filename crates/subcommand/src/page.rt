@@ -1,9 +1,9 @@
 // A refusal of a page in words.
 ghost use Rattle.std.specs.Prelude.{◌≡◌, [], ◌∷◌, map};
 ghost use Rattle.std.specs.List.{concat};
-ghost use Rattle.subcommand.specs.Message.{is_column, no_page_text, page_words_with};
+ghost use Rattle.subcommand.specs.Message.{is_column, is_e, no_page_text, page_words_with};
 
-use layout::BinTable;
+use layout::{BinTable, NO_COLUMN};
 use refusal::Refusal;
 use words::PIECES;
 
@@ -14,6 +14,14 @@ fn is_column(layout: &BinTable, column: Option<usize>) -> bool
     column.is_some_and(|c| c < layout.tfields)
 }
 
+// Whether its form's letter is E.
+fn is_e(layout: &BinTable, column: Option<usize>) -> bool
+    ensures { result ≡ is_e layout.now column }
+{
+    column.is_some_and(|c| tform::form_letter(layout.columns.get(c).unwrap_or(&NO_COLUMN).form)
+        == b'E')
+}
+
 // Why there is no page in an edition of a column that was sought.
 #[tactic(auto, unfolding(crate::specs::Message::no_page_text))]
 fn no_page<'a>(layout: &BinTable, column: Option<usize>, edition: u64) -> &'a [u8]
@@ -22,10 +30,13 @@ fn no_page<'a>(layout: &BinTable, column: Option<usize>, edition: u64) -> &'a [u
     if edition != 1 && edition != 2 {
         return b"there is no edition but 1 and 2";
     }
-    if is_column(layout, column) {
-        return b"the column is not of form E (PE is another form)";
+    if !is_column(layout, column) {
+        return b"the table has no such column";
     }
-    b"the table has no such column"
+    if is_e(layout, column) {
+        return b"the column has TSCALn or TZEROn, and such a column has no page";
+    }
+    b"the column is not of form E (PE is another form)"
 }
 
 // Words of up to three pieces.

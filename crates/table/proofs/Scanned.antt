@@ -23,11 +23,14 @@ use Rattle.walk.specs.declared.TableData.{TableData}
 use Rattle.walk.specs.declared.Entry.{Entry}
 use Rattle.walk.specs.declared.Entry.TheVariants.{OutsideHeap}
 use Rattle.walk.specs.Plain.{column_of, field_at, field_of, chosen, column_size, entry_in, row_entries}
+use Rattle.walk.specs.declared.How.{How}
+use Rattle.walk.specs.Scaled.{plain}
+use Rattle.walk.specs.Readings.{entry_as}
 use Rattle.walk.specs.Walk.{read_cell, entry_at, entry_outcome, place_ok}
 use Rattle.walk.specs.Step.{fits, choice_ok, belongs, state_of, with_cursor, cursor_step}
 use Rattle.std.proofs.lemmas.Bool.{and_parts}
 use Rattle.walk.proofs.Laws.{from, from_row, from_end, length_from, at_here, at_later, size_chosen, next_here}
-use Rattle.walk.proofs.Steps.{cell_at}
+use Rattle.walk.proofs.Steps.{read_at}
 use Rattle.table.specs.declared.scan.Found.{Found}
 use Rattle.table.specs.declared.scan.Scan.{Scan}
 use Rattle.table.specs.Scan.{sizes_of, ready, after}
@@ -270,10 +273,11 @@ module _ (l : BinTable) (a : List ℕ) (cursor : TableData) (s : Scan) (k : Foun
       summed_belongs l a cursor s.at s.size full y w.summed ends
       (rw (lt-ltb cursor.passed (length (rows_of cursor.row)) inside) (or-true (eqb cursor.passed 0)))
 
-  pub found_step : cursor_step l a cursor read_cell
-      ≡ with_cursor cursor.choice cursor.heap (entry_outcome (state_of cursor) s.size cursor.row cursor.passed (entry_in (column_of l k.column) a cursor.row k.column (field_of l a cursor.heap cursor.row k.column) k.idx))
-  found_step =
+  pub found_step : (how : How) → cursor_step l a cursor (read_cell how)
+      ≡ with_cursor cursor.choice cursor.heap (entry_outcome (state_of cursor) plain s.size cursor.row cursor.passed
+      (entry_as l how.reading (entry_in (column_of l k.column) a cursor.row k.column (field_of l a cursor.heap cursor.row k.column) k.idx)))
+  found_step how =
       let e : get_or (rows_of cursor.row) cursor.passed (OutsideHeap 0) ≡ entry_in (column_of l k.column) a cursor.row k.column (field_of l a cursor.heap cursor.row k.column) k.idx = rw row_is found_in.1.1.1 in
       rw (← e, ← whole)
-      (cell_at l a cursor found_belongs (entry_at cursor.row cursor.passed (get_or (rows_of cursor.row) cursor.passed (OutsideHeap 0)))
+      (read_at l a cursor found_belongs how (entry_at cursor.row cursor.passed (get_or (rows_of cursor.row) cursor.passed (OutsideHeap 0)))
       (next_here rows_of l.naxis2 cursor.row cursor.passed (ready_row l a cursor.choice cursor.row y) inside))

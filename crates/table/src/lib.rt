@@ -24,7 +24,7 @@ use refusal::Refusal;
 use rows::NextPlace;
 pub use rows::{RowSpan, TableRow};
 use scan::Scan;
-use walk::{Stepped, TableData};
+use walk::{How, Stepped, TableData};
 
 // A cursor on the columns that are wanted, at the start of the table.
 fn open_on<F: Fn(usize) -> bool>(
@@ -75,9 +75,10 @@ pub fn select_fields(
 }
 
 // The cell read: the next cell, none at the end, or refusal 13 at an array outside the heap. Refused with 10 first, if
-// the cursor does not belong to the layout and the area. A refusal returns the cursor that it got.
-pub fn next(layout: BinTable, area: &[u8], cursor: TableData) -> Stepped<Option<Cell>>
-    ensures { cell_result result.cursor result.answer ≡ cursor_step layout area.now cursor read_cell }
+// the cursor does not belong to the layout and the area. A refusal returns the cursor that it got. `how` decides the
+// cell's value alone.
+pub fn next(layout: BinTable, area: &[u8], cursor: TableData, how: How) -> Stepped<Option<Cell>>
+    ensures { cell_result result.cursor result.answer ≡ cursor_step layout area.now cursor (read_cell how) }
 {
     // One pass over the columns gives the entry of the cursor's row. Where it gives none, the calls of `step` tell
     // why; by these alone a cell read of 41 columns takes 4.9 times the instructions.
@@ -97,7 +98,7 @@ pub fn next(layout: BinTable, area: &[u8], cursor: TableData) -> Stepped<Option<
         for c in 0..layout.tfields {
             let column = layout.columns[c];
             if !pass::in_order(column, scan.at) {
-                return step::next(layout, area, cursor);
+                return step::next(&layout, area, cursor, how);
             }
             let is_chosen = chosen(cursor.choice, c);
             let size = rows::column_size(area, start + scan.at, column, is_chosen, &heap);
@@ -114,11 +115,11 @@ pub fn next(layout: BinTable, area: &[u8], cursor: TableData) -> Stepped<Option<
                     passed: cursor.passed,
                     size: scan.size,
                 };
-                return step::read_entry(cursor, place, entry);
+                return step::read_entry(cursor, place, walk::entry_by(how, column.scaling, entry));
             }
         }
     }
-    step::next(layout, area, cursor)
+    step::next(&layout, area, cursor, how)
 }
 
 // The seek: to the start of a row, or refusal 12 if there is no such row. Refused with 10 first, as `next` is.

@@ -12,7 +12,7 @@ use tform::TFormType;
 use walk::TableData;
 
 // The sizes of a layout, all of it but its columns. Where `ready` takes the layout, a cell read of one column has 26 %
-// more instructions, since it copies 2,088 bytes; where it borrows the layout, one of 41 columns has 25 % more.
+// more instructions, since it copies the layout; where it borrows it, one of 41 columns has 25 % more.
 #[derive(Clone, Copy)]
 pub struct Sizes {
     pub naxis1: u64,

@@ -1,6 +1,7 @@
 // The steps of a cursor that belongs.
 ghost use Rattle.std.specs.Prelude.{◌≡◌, true, ◌<◌};
 ghost use Rattle.layout.specs.Layout.{naxis2_limit};
+ghost use Rattle.walk.specs.Scaled.{plain};
 ghost use Rattle.walk.specs.Walk.{read_cell, placed, grown, pass, entry_outcome, seek_outcome};
 ghost use Rattle.walk.specs.Step.{belongs, state_of, cursor_at, with_cursor, cursor_step, cell_result, seek_result};
 
@@ -9,7 +10,7 @@ use super::{belong, rows};
 use cell::Cell;
 use layout::BinTable;
 use refusal::Refusal;
-use walk::{Entry, Stepped, TableData};
+use walk::{Entry, How, Stepped, TableData};
 
 // The cursor at another place.
 fn placed(cursor: TableData, row: u64, passed: u64) -> TableData
@@ -24,7 +25,7 @@ fn placed(cursor: TableData, row: u64, passed: u64) -> TableData
 
 // The cursor with one more cell counted.
 fn grown(cursor: TableData) -> TableData
-    ensures { result ≡ cursor_at cursor.choice cursor.heap (grown (state_of cursor) read_cell 1) }
+    ensures { result ≡ cursor_at cursor.choice cursor.heap (grown (state_of cursor) (read_cell plain) 1) }
 {
     TableData {
         count: walk::counted(cursor.count, 1),
@@ -43,11 +44,11 @@ fn pass(cursor: TableData, place: NextPlace) -> TableData
     placed(cursor, place.row + 1, 0)
 }
 
-// A cell read at the entry at a place.
+// A cell read at the entry at a place, as it is handed out. A read of either reading counts alike.
 pub fn read_entry(cursor: TableData, place: NextPlace, entry: Entry) -> Stepped<Option<Cell>>
     requires { (place.row < naxis2_limit) × (place.passed < place.size) }
     ensures { cell_result result.cursor result.answer ≡ with_cursor cursor.choice cursor.heap
-        (entry_outcome (state_of cursor) place.size place.row place.passed entry) }
+        (entry_outcome (state_of cursor) plain place.size place.row place.passed entry) }
 {
     match entry {
         Entry::Cell(cell) => Stepped {
@@ -62,31 +63,31 @@ pub fn read_entry(cursor: TableData, place: NextPlace, entry: Entry) -> Stepped<
 }
 
 // A cell read of a cursor that belongs.
-fn read_cell(layout: BinTable, area: &[u8], cursor: TableData) -> Stepped<Option<Cell>>
-    requires { belongs layout area.now cursor ≡ true }
-    ensures { cell_result result.cursor result.answer ≡ cursor_step layout area.now cursor read_cell }
+fn read_cell(layout: &BinTable, area: &[u8], cursor: TableData, how: How) -> Stepped<Option<Cell>>
+    requires { belongs layout.now area.now cursor ≡ true }
+    ensures { cell_result result.cursor result.answer ≡ cursor_step layout.now area.now cursor (read_cell how) }
 {
-    let Some(place) = rows::find_entry(layout, area, cursor) else {
+    let Some(place) = rows::find_entry(*layout, area, cursor) else {
         return Stepped {
             cursor: placed(cursor, layout.naxis2, 0),
             answer: Ok(None),
         };
     };
     let here = TableRow {
-        layout: &layout,
+        layout,
         area,
         cursor: placed(cursor, place.row, place.passed),
     };
-    read_entry(cursor, place, here.entry())
+    read_entry(cursor, place, walk::entry_as(layout, how, here.entry()))
 }
 
 // A cell read: refused with 10 if the cursor does not belong.
 #[tactic(auto, using(walk::proofs::Steps::step_unfit))]
-pub fn next(layout: BinTable, area: &[u8], cursor: TableData) -> Stepped<Option<Cell>>
-    ensures { cell_result result.cursor result.answer ≡ cursor_step layout area.now cursor read_cell }
+pub fn next(layout: &BinTable, area: &[u8], cursor: TableData, how: How) -> Stepped<Option<Cell>>
+    ensures { cell_result result.cursor result.answer ≡ cursor_step layout.now area.now cursor (read_cell how) }
 {
-    if belong::belongs(layout, area, cursor) {
-        return read_cell(layout, area, cursor);
+    if belong::belongs(*layout, area, cursor) {
+        return read_cell(layout, area, cursor, how);
     }
     Stepped {
         cursor,

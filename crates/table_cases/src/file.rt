@@ -3,11 +3,11 @@ use layout::BinTable;
 use refusal::Refusal;
 use row::owners::LIST_LIMIT;
 use std::alloc::{AllocError, Global};
-use walk::TableData;
+use walk::{How, Reading, TableData};
 
 const RECORD_LEN: usize = 80;
 
-const KEPT_LEN: usize = 24;
+const KEPT_LEN: usize = 32;
 
 const STEP_LEN: usize = 18;
 
@@ -143,9 +143,10 @@ pub enum Step<'a> {
     },
     // The cursor gets a choice: column c is in it if bit c is set.
     Choose(u64),
-    // A call is made so many times, over a lent cursor or by value, with the area that it is lent.
+    // A call is made so many times, in a reading, over a lent cursor or by value, with the area that it is lent.
     Call {
         call: Call,
+        how: How,
         over_lent: bool,
         times: u8,
         area: &'a [u8],
@@ -157,7 +158,7 @@ impl<'a> Step<'a> {
         let kind = bytes[0];
         let (number, named) = bytes[2..].split_first_chunk().unwrap();
         let number = u64::from_be_bytes(*number);
-        let call = match kind % 128 {
+        let call = match kind % 64 {
             1 => Call::Seek {
                 row: number as usize,
             },
@@ -174,8 +175,14 @@ impl<'a> Step<'a> {
             },
             _ => Call::Cell,
         };
+        let reading = if 64 <= kind % 128 {
+            Reading::Scaled
+        } else {
+            Reading::Plain
+        };
         Step::Call {
             call,
+            how: How { reading },
             over_lent: 128 <= kind,
             times: bytes[1],
             area: lent(areas, named),

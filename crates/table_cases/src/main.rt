@@ -6,14 +6,14 @@
 //
 // The settings are the header's blocks of 2,880 bytes, 1 for a choice (else all columns), 1 for the heap on, what
 // the entry is lent of the areas (a place and a length), and what the opening is lent. A record of the header is
-// kept as its first 24 bytes. A step is its kind, how often it is done, a row, and what it is lent. Kind 0 is a
+// kept as its first 32 bytes. A step is its kind, how often it is done, a row, and what it is lent. Kind 0 is a
 // cell read, 1 a seek. Kind 2 puts the cursor anywhere: at that row, with two numbers in place of what is lent, the
 // entries passed and the count. Kind 3 gives it a choice, which stands in place of the row. Kind 4 is a row read,
 // with the length of its list, 512 at most, in place of the row.
 //
-// 128 more in the kind says that the read or seek is done over a lent cursor, else the cursor goes in by value and
-// comes back. What is printed is the same for both. After a row read stands its list, whose cells were all `other`
-// before.
+// 64 more in the kind says that a read scales its cells. 128 more says that the read or seek is done over a lent
+// cursor, else the cursor goes in by value and comes back. What is printed is the same for both. After a row read
+// stands its list, whose cells were all `other` before.
 #![tactic(auto)]
 
 mod file;
@@ -57,6 +57,7 @@ fn print_step(
         Step::Choose(choice) => print_put(rt, TableData { choice, ..cursor }),
         Step::Call {
             call,
+            how,
             over_lent,
             times,
             area,
@@ -64,6 +65,7 @@ fn print_step(
             let reader = Reader {
                 layout,
                 area,
+                how,
                 over_lent,
             };
             let mut current = cursor;

@@ -6,7 +6,7 @@ use layout::BinTable;
 use refusal::Refusal;
 use std::alloc::{AllocError, Global};
 use std::io;
-use walk::{Stepped, TableData};
+use walk::{How, Stepped, TableData};
 
 // What a list is filled with before it is lent: a cell that no table gives.
 fn other() -> Cell {
@@ -43,21 +43,25 @@ where
     }
 }
 
-// The table under test, with the area that a step is lent, and whether its calls are made over a lent cursor. Each of
-// its three calls has two shapes, and the file says which one is tried.
+// The table under test, with the area that a step is lent, its reading, and whether its calls are made over a lent
+// cursor. Each of its three calls has two shapes, and the file says which one is tried.
 #[derive(Clone, Copy)]
 pub struct Reader<'a> {
     pub layout: BinTable,
     pub area: &'a [u8],
+    pub how: How,
     pub over_lent: bool,
 }
 
 impl Reader<'_> {
     fn next(&self, cursor: TableData) -> Stepped<Option<Cell>> {
         if self.over_lent {
-            by_lent(cursor, |own| row::next(own, self.layout, self.area))
+            by_lent(
+                cursor,
+                |own| row::next(own, self.layout, self.area, self.how),
+            )
         } else {
-            table::next(self.layout, self.area, cursor)
+            table::next(self.layout, self.area, cursor, self.how)
         }
     }
 
@@ -82,20 +86,23 @@ impl Reader<'_> {
         let mut list = vec![in alloc; other(); n]?;
         if self.over_lent {
             let stepped = by_lent(cursor, |own| {
-                row::next_row(own, self.layout, self.area, list.as_mut_slice())
+                row::next_row(own, self.layout, self.area, self.how, list.as_mut_slice())
             });
             return Ok((stepped, list));
         }
         // By value the list is that of `row_cell`, which gives one cell of it: the read is done anew for each that
         // is shown.
-        let read = row::owners::row_cell(self.layout, self.area, cursor, other(), n, 0);
-        let cells = cells_read(read.stepped.answer);
+        let read = |k: usize| {
+            row::owners::row_cell(self.layout, self.area, cursor, self.how, other(), n, k)
+        };
+        let stepped = read(0).stepped;
+        let cells = cells_read(stepped.answer);
         for (k, cell) in list.iter_mut().enumerate() {
             if is_shown(k, n, cells) {
-                *cell = row::owners::row_cell(self.layout, self.area, cursor, other(), n, k).cell;
+                *cell = read(k).cell;
             }
         }
-        Ok((read.stepped, list))
+        Ok((stepped, list))
     }
 
     // A row read. Cells of the list past those that it stored must be as they were, so they are printed too.

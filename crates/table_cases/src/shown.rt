@@ -30,6 +30,7 @@ impl fmt::Display for Shown<DataValue> {
             DataValue::Short(number) => write!(f, "I {number}"),
             DataValue::Integer(number) => write!(f, "J {number}"),
             DataValue::Long(number) => write!(f, "K {number}"),
+            DataValue::UnsignedLong(number) => write!(f, "U {number}"),
             DataValue::Character(byte) => write!(f, "A {byte}"),
             DataValue::Float { bits, .. } => write!(f, "E {bits}"),
             DataValue::Double { bits, .. } => write!(f, "D {bits}"),

@@ -45,6 +45,16 @@ form_letter (Items e) = letter e
 form_letter (P e) = 80
 form_letter (Q e) = 81
 
+-- the type of a form's items, or of the elements of its arrays
+abbrev pub element : TFormType → VariableArrayTy
+element (Items e) = e
+element (P e) = e
+element (Q e) = e
+
+-- whether a column's numbers may be scaled: they are of type B, I, J, K, E or D
+unfoldable pub can_scale : TFormType → Bool
+can_scale f = among (letter (element f)) (bytes "BIJKED")
+
 -- the items that a count stands for: of X, which are bits, one for each byte that they take, else as many as the count
 abbrev pub items : VariableArrayTy → ℕ → ℕ
 items X n = (n + 7) / 8

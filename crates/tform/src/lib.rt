@@ -4,7 +4,8 @@
 mod parsing;
 
 ghost use Rattle.std.specs.Prelude.{◌≡◌};
-ghost use Rattle.tform.specs.Width.{letter, form_letter, letter_width, items, field_items, field_bytes, count_ok};
+ghost use Rattle.tform.specs.Width.{letter, form_letter, letter_width, can_scale, items, field_items, field_bytes};
+ghost use Rattle.tform.specs.Width.{count_ok};
 ghost use Rattle.tform.specs.Form.{counted, form_of};
 
 // The largest count of a form of items.
@@ -94,6 +95,15 @@ pub fn form_letter(form: TFormType) -> u8
         TFormType::P(_) => b'P',
         TFormType::Q(_) => b'Q',
     }
+}
+
+// Whether a column's numbers may be scaled: a descriptor's type is that of its elements.
+#[tactic(auto, unfolding(crate::specs::Width::can_scale, crate::specs::Width::among, ascii::specs::Text::bytes))]
+pub fn can_scale(form: TFormType) -> bool
+    ensures { result ≡ can_scale form }
+{
+    let (TFormType::Items(ty) | TFormType::P(ty) | TFormType::Q(ty)) = form;
+    matches!(letter(ty), b'B' | b'I' | b'J' | b'K' | b'E' | b'D')
 }
 
 // How many items a count stands for: bits are eight to an item.

@@ -14,18 +14,19 @@ use Rattle.tform.specs.declared.TFormType.TheVariants as F
 use Rattle.tform.specs.Width.{among, letter_width}
 use Rattle.layout.specs.declared.Column.{Column}
 use Rattle.layout.specs.declared.BinTable.{BinTable}
-use Rattle.layout.specs.Layout.{no_column, columns_ok, layout_ok}
+use Rattle.layout.specs.Layout.{no_scaling, no_column, columns_ok, layout_ok}
 use Rattle.cell.specs.declared.Logical.TheVariants.{Yes, No, Unset, Odd}
 use Rattle.cell.specs.declared.DataValue.TheVariants as D
 use Rattle.cell.specs.declared.Cell.{Cell}
 use Rattle.cell.specs.Item.{word, logical, item}
 use Rattle.cell.specs.Field.{array, field32, field64, field}
 use Rattle.walk.specs.Plain.{field_of, cell_of, cells, entries_of, chosen, column_entries, columns_entries, row_entries}
+use Rattle.walk.specs.Scaled.{plain}
 use Rattle.walk.specs.Walk.{Step, read_cell, read_row, seek, Reply, got_cell, got_row, sought, at_end, refused, start, gather, next, place_ok, walk_step}
 use Rattle.walk.specs.Step.{Selection, all_columns, listed, fits, choice_ok, belongs, cursor_at, choice_from, choice_of, opened, not_opened, open_with, StepResult, cursor_step, run}
 
 abbrev column : TFormType → ℕ → ℕ → Column
-column f n at = record { form = f; count = n; start = at; name = None }
+column f n at = record { form = f; count = n; start = at; name = None; scaling_given = false; scaling = no_scaling }
 
 -- the answers of some steps from an opened cursor
 pub answers : BinTable → List ℕ → Selection → Bool → List Step → List Reply
@@ -62,7 +63,7 @@ too_short : open_with table (0 ∷ 0 ∷ 0 ∷ 0 ∷ 0 ∷ 0 ∷ 0 ∷ 0 ∷ 0 �
 unfolding open_with fits layout_ok columns_ok letter_width among bytes
 too_short = refl
 
-pub four_cells : answers table area all_columns true (replicate 6 read_cell)
+pub four_cells : answers table area all_columns true (replicate 6 (read_cell plain))
     ≡ got_cell (cell_of 0 0 0 (D.Short (pos 1))) ∷ got_cell (cell_of 0 1 0 (D.Integer (pos 8000))) ∷ got_cell (cell_of 1 0 0 (D.Short (negsuc 0)))
     ∷ got_cell (cell_of 1 1 0 (D.Integer (pos 42))) ∷ at_end ∷ at_end ∷ []
 unfolding answers
@@ -73,7 +74,7 @@ abbrev some_cell : Cell
 some_cell = cell_of 7 7 7 (D.Bit 7)
 
 refusals : answers table area (listed (1 ∷ 9 ∷ 1 ∷ [])) true
-    (seek 2 ∷ read_row [] ∷ read_cell ∷ read_row (some_cell ∷ []) ∷ read_row [] ∷ seek 1 ∷ read_cell ∷ [])
+    (seek 2 ∷ read_row plain [] ∷ read_cell plain ∷ read_row plain (some_cell ∷ []) ∷ read_row plain [] ∷ seek 1 ∷ read_cell plain ∷ [])
     ≡ refused 12 2 ∷ refused 14 1 ∷ got_cell (cell_of 0 1 0 (D.Integer (pos 8000))) ∷ got_row 1 ∷ at_end ∷ sought ∷ got_cell (cell_of 1 1 0 (D.Integer (pos 42))) ∷ []
 unfolding answers
 refusals = refl
@@ -85,7 +86,7 @@ letters : answers
     (84 ∷ 70 ∷ 0 ∷ 1 ∷ 255 ∷ 128 ∷ [])
     all_columns
     true
-    (replicate 7 read_cell)
+    (replicate 7 (read_cell plain))
     ≡ got_cell (cell_of 0 0 0 (D.Logical Yes)) ∷ got_cell (cell_of 0 0 1 (D.Logical No)) ∷ got_cell (cell_of 0 0 2 (D.Logical Unset))
     ∷ got_cell (cell_of 0 0 3 (D.Logical (Odd 1))) ∷ got_cell (cell_of 0 1 0 (D.Bit 255)) ∷ got_cell (cell_of 0 1 1 (D.Bit 128)) ∷ at_end ∷ []
 unfolding answers
@@ -101,13 +102,13 @@ array_area =
     0 ∷ 0 ∷ 0 ∷ 0 ∷ 255 ∷ 255 ∷ 255 ∷ 255 ∷ 0 ∷ 0 ∷ 0 ∷ 0 ∷ 0 ∷ 0 ∷ 0 ∷ 0 ∷ 0 ∷ 0 ∷ 0 ∷ 1 ∷ 0 ∷ 0 ∷ 0 ∷ 1 ∷ 0 ∷ 0 ∷ 0 ∷ 1 ∷ 0 ∷ 0 ∷ 0 ∷ 2
     ∷ 9 ∷ 8 ∷ 255 ∷ 254 ∷ 7 ∷ []
 
-pub followed : answers arrays array_area all_columns true (read_row [] ∷ read_cell ∷ read_cell ∷ read_row [] ∷ seek 1 ∷ read_row [] ∷ read_row [] ∷ [])
+pub followed : answers arrays array_area all_columns true (read_row plain [] ∷ read_cell plain ∷ read_cell plain ∷ read_row plain [] ∷ seek 1 ∷ read_row plain [] ∷ read_row plain [] ∷ [])
     ≡ got_row 0 ∷ got_cell (cell_of 2 0 0 (D.Short (negsuc 1))) ∷ refused 13 0 ∷ refused 13 0 ∷ sought ∷ got_row 0 ∷ refused 14 1 ∷ []
 unfolding answers
 followed = refl
 
 -- the same with the heap off
-unfollowed : answers arrays array_area all_columns false (read_cell ∷ seek 3 ∷ read_cell ∷ read_cell ∷ [])
+unfollowed : answers arrays array_area all_columns false (read_cell plain ∷ seek 3 ∷ read_cell plain ∷ read_cell plain ∷ [])
     ≡ got_cell (cell_of 0 0 0 (D.VariableLengthArray32 0 4294967295)) ∷ sought ∷ got_cell (cell_of 3 0 0 (D.VariableLengthArray32 1 2)) ∷ at_end ∷ []
 unfolding answers
 unfollowed = refl
@@ -128,7 +129,7 @@ empty_fields =
     }
 
 empty_cells : (heap : Bool)
-    → answers empty_fields area all_columns heap (read_cell ∷ read_cell ∷ read_row (some_cell ∷ some_cell ∷ []) ∷ read_cell ∷ [])
+    → answers empty_fields area all_columns heap (read_cell plain ∷ read_cell plain ∷ read_row plain (some_cell ∷ some_cell ∷ []) ∷ read_cell plain ∷ [])
     ≡ got_cell (cell_of 0 0 0 (D.Short (pos 1))) ∷ got_cell (cell_of 0 2 0 (D.Integer (pos 8000))) ∷ got_row 2 ∷ at_end ∷ []
 unfolding answers
 empty_cells true = refl
@@ -136,7 +137,7 @@ empty_cells false = refl
 
 -- chosen alone, such a column gives no cell
 empty_alone : (heap : Bool)
-    → answers empty_fields area (listed (1 ∷ [])) heap (read_row [] ∷ read_cell ∷ seek 1 ∷ read_row [] ∷ read_row [] ∷ [])
+    → answers empty_fields area (listed (1 ∷ [])) heap (read_row plain [] ∷ read_cell plain ∷ seek 1 ∷ read_row plain [] ∷ read_row plain [] ∷ [])
     ≡ got_row 0 ∷ at_end ∷ sought ∷ got_row 0 ∷ at_end ∷ []
 unfolding answers
 empty_alone true = refl

@@ -3,7 +3,7 @@
 use Prim.Native.Nat.{ℕ, zero, suc, ◌+◌, ◌≤◌, ◌<◌}
 use mathlib.Core.Path.{◌≡◌}
 use mathlib.Core.Bool.{Bool, true}
-use mathlib.Core.List.{List, [], ◌∷◌, ◌++◌}
+use mathlib.Core.List.{List, [], ◌∷◌, ◌++◌, map}
 use native.Mathlib.Omega.{arith}
 use lib.Dec.{leb, ltb}
 use lib.ListN.{length, get_or, take, drop}
@@ -16,8 +16,13 @@ use Rattle.cell.specs.declared.Cell.{Cell}
 use Rattle.walk.specs.declared.TableData.{TableData}
 use Rattle.walk.specs.declared.Entry.{Entry}
 use Rattle.walk.specs.declared.Entry.TheVariants as E
+use Rattle.walk.specs.declared.How.{How}
+use Rattle.walk.specs.declared.Reading.{Reading}
+use Rattle.walk.specs.declared.Reading.TheVariants.{Plain, Scaled}
+use Rattle.walk.specs.Scaled.{scaled_cell, scaled_entry, in_reading}
 use Rattle.walk.specs.Plain.{column_of, field_of, cell_of, cells, entries_of, chosen, column_entries, columns_entries, row_entries}
 use Rattle.walk.specs.Walk.{Step, read_cell, read_row, seek, State, Outcome, Reply, got_cell, got_row, sought, at_end, refused, Next, entry_at, no_entry, Gathered, all_cells, outside, before, gather, next, next_entry, rest, cell_outcome, row_outcome, walk_step}
+use Rattle.walk.specs.Readings.{reading_of}
 use Rattle.walk.specs.Step.{belongs, state_of, StepResult, cursor_step}
 
 module _ (P : Cell → Type 0) where
@@ -95,6 +100,9 @@ module _ (P : Cell → Type 0) where
   gather_all (E.OutsideHeap k ∷ es) h = tt
   gather_all (E.Cell c ∷ es) h = before_all c (gather es) h.0 (gather_all es h.1)
 
+  abbrev OfOutcome : Outcome → Type 0
+  OfOutcome o = OfReply o.list o.reply
+
   module _ (rows : ℕ → List Entry) (n : ℕ) (all : (r : ℕ) → OfEntries (rows r)) where
     abbrev OfNext : Next → Type 0
     OfNext no_entry = Unit {0}
@@ -106,32 +114,49 @@ module _ (P : Cell → Type 0) where
     next_all (suc k) r p =
         by_test OfNext (ltb p (length (rows r))) (λ t. get_d_all (rows r) p (E.OutsideHeap 0) (all r) tt) (λ t. next_all k (suc r) _)
 
-    abbrev OfOutcome : Outcome → Type 0
-    OfOutcome o = OfReply o.list o.reply
+    cell_all : (s : State) (how : How) (x : Next) → OfNext x → OfOutcome (cell_outcome rows n s how x)
+    cell_all s how no_entry h = tt
+    cell_all s how (entry_at r p (E.Cell c)) h = h
+    cell_all s how (entry_at r p (E.OutsideHeap k)) h = tt
 
-    cell_all : (s : State) (x : Next) → OfNext x → OfOutcome (cell_outcome rows n s x)
-    cell_all s no_entry h = tt
-    cell_all s (entry_at r p (E.Cell c)) h = h
-    cell_all s (entry_at r p (E.OutsideHeap k)) h = tt
-
-    row_all : (s : State) (list : List Cell) (g : Gathered) → OfGathered g → OfOutcome (row_outcome rows n s list g)
-    row_all s list (outside k) h = tt
-    row_all s list (all_cells cs) h =
+    row_all : (s : State) (how : How) (list : List Cell) (g : Gathered) → OfGathered g → OfOutcome (row_outcome rows n s how list g)
+    row_all s how list (outside k) h = tt
+    row_all s how list (all_cells cs) h =
         by_test OfOutcome (leb (length cs) (length list)) (λ t. rw (take-append_seam cs (drop (length cs) list)) h) (λ t. tt)
 
-    walk_all : (s : State) (x : Step) → OfOutcome (walk_step rows n s x)
-    unfolding walk_step
-    walk_all s read_cell = cell_all s (next_entry rows n s) (next_all _ s.row s.passed)
-    walk_all s (read_row list) =
-        by_test OfOutcome (ltb s.row n)
-        (λ t. row_all s list (rest rows n s) (gather_all (drop s.passed (rows s.row)) (drop_all s.passed (rows s.row) (all s.row))))
-        (λ t. tt)
-    walk_all s (seek r) = by_test OfOutcome (ltb r n) (λ t. tt) (λ t. tt)
+    next_entry_all : (s : State) (how : How) → OfOutcome (cell_outcome rows n s how (next_entry rows n s))
+    next_entry_all s how = cell_all s how (next_entry rows n s) (next_all _ s.row s.passed)
+
+    rest_all : (s : State) (how : How) (list : List Cell) → OfOutcome (row_outcome rows n s how list (rest rows n s))
+    rest_all s how list =
+        row_all s how list (rest rows n s) (gather_all (drop s.passed (rows s.row)) (drop_all s.passed (rows s.row) (all s.row)))
+
+  walk_all : (l : BinTable) (rows : ℕ → List Entry) (n : ℕ) (s : State) (x : Step) → ((r : ℕ) → OfEntries (in_reading l (reading_of x) rows r))
+      → OfOutcome (walk_step l rows n s x)
+  unfolding walk_step
+  walk_all l rows n s (read_cell how) all = next_entry_all (in_reading l how.reading rows) n all s how
+  walk_all l rows n s (read_row how list) all =
+      by_test OfOutcome (ltb s.row n) (λ t. rest_all (in_reading l how.reading rows) n all s how list) (λ t. tt)
+  walk_all l rows n s (seek r) all = by_test OfOutcome (ltb r n) (λ t. tt) (λ t. tt)
 
   -- of every step of a cursor, whatever layout, area and cursor
-  pub step_all : (l : BinTable) (a : List ℕ) (c : TableData) (x : Step) → ((r : ℕ) → OfEntries (row_entries l a c.choice c.heap r))
+  pub step_all : (l : BinTable) (a : List ℕ) (c : TableData) (x : Step)
+      → ((r : ℕ) → OfEntries (in_reading l (reading_of x) (row_entries l a c.choice c.heap) r))
       → OfReply (cursor_step l a c x).list (cursor_step l a c x).reply
   unfolding cursor_step
   step_all l a c x all =
       by_test (λ (o : StepResult). OfReply o.list o.reply) (belongs l a c)
-      (λ t. walk_all (row_entries l a c.choice c.heap) l.naxis2 all (state_of c) x) (λ t. tt)
+      (λ t. walk_all l (row_entries l a c.choice c.heap) l.naxis2 (state_of c) x all) (λ t. tt)
+
+-- what holds of the plain cells, and what then holds of the scaled ones: of the rows in a reading
+in_reading_all : (P Q : Cell → Type 0) (l : BinTable) → ((c : Cell) → P c → Q (scaled_cell l c)) → (es : List Entry)
+    → OfEntries P es → OfEntries Q (map (scaled_entry l) es)
+in_reading_all P Q l f [] h = tt
+in_reading_all P Q l f (E.Cell c ∷ es) h = (f c h.0, in_reading_all P Q l f es h.1)
+in_reading_all P Q l f (E.OutsideHeap k ∷ es) h = (tt, in_reading_all P Q l f es h.1)
+
+-- a property of the reading's own
+pub rows_in : (P : Reading → Cell → Type 0) (l : BinTable) (rows : ℕ → List Entry) → ((c : Cell) → P Plain c → P Scaled (scaled_cell l c))
+    → ((r : ℕ) → OfEntries (P Plain) (rows r)) → (m : Reading) (r : ℕ) → OfEntries (P m) (in_reading l m rows r)
+rows_in P l rows f all Plain r = all r
+rows_in P l rows f all Scaled r = in_reading_all (P Plain) (P Scaled) l f (rows r) (all r)

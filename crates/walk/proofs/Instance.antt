@@ -4,7 +4,7 @@
 use Rattle.std.specs.Prelude.{None}
 use Prim.Native.Nat.{ℕ, zero, suc, ◌+◌, ◌*◌, ◌<◌}
 use mathlib.Core.Path.{◌≡◌, refl, sym, subst}
-use mathlib.Core.Bool.{Bool, true, ◌&&◌, false≢true}
+use mathlib.Core.Bool.{Bool, true, false, ◌&&◌, false≢true}
 use mathlib.Core.Logic.{◌≢◌}
 use mathlib.Core.List.{List, [], ◌∷◌, ◌++◌, map, flat_map}
 use native.Mathlib.Nat.{not-suc-le-zero, le_of_suc-le-suc}
@@ -27,14 +27,19 @@ use Rattle.tform.specs.Width.{among, letter_width}
 use Rattle.tform.specs.Form.{repeat_count, element_among, element_of, first_element, kind_of, form_of}
 use Rattle.layout.specs.declared.Column.{Column}
 use Rattle.layout.specs.declared.BinTable.{BinTable}
-use Rattle.layout.specs.Layout.{no_column, column_bytes, row_bytes, columns_ok, layout_ok}
-use Rattle.bintable.specs.Checks.{first_refusal}
-use Rattle.bintable.specs.Entry.{required, limited, theap_check, nine, nine_checks, column_check, column_checks, columns_from, layout_of, check9, check10, header_checks, all_checks, accepted, entry}
-use Rattle.cell.specs.declared.DataValue.TheVariants.{UnsignedByte}
+use Rattle.layout.specs.Layout.{no_scaling, no_column, column_bytes, row_bytes, columns_ok, layout_ok}
+use Rattle.bintable.specs.Checks.{check16, scaling_given, first_refusal}
+use Rattle.bintable.specs.Entry.{scaling_of, required, limited, theap_check, nine, nine_checks, column_check, column_checks, columns_from, layout_of, check9, check10, header_checks, all_checks, accepted, entry}
+use Rattle.std.specs.Float.{binary64}
+use Rattle.std.specs.Float.Ieee.{add, mul, eq, of_int, of_bits, to_bits, round}
+use Rattle.cell.specs.Scaled.{shifts_by}
+use Rattle.cell.specs.declared.DataValue.{DataValue}
+use Rattle.cell.specs.declared.DataValue.TheVariants.{UnsignedByte, Double}
 use Rattle.cell.specs.declared.Cell.{Cell}
 use Rattle.cell.specs.Item.{word, item}
 use Rattle.cell.specs.Field.{array, field32, field}
 use Rattle.walk.specs.Plain.{column_of, field_at, field_of, cell_of, cells, entries_of, chosen, column_entries, columns_entries, row_entries}
+use Rattle.walk.specs.Scaled.{plain, scaled}
 use Rattle.walk.specs.Walk.{Step, read_cell, read_row, seek, Reply, got_cell, sought, refused, start, gather, next, place_ok, walk_step}
 use Rattle.walk.specs.Step.{fits, choice_ok, belongs, cursor_at, listed, choice_from, choice_of, open_with, StepResult, cursor_step, run}
 use Rattle.walk.specs.Agree.{Same, SameItems, Agree, SameSteps}
@@ -42,7 +47,7 @@ use Rattle.walk.proofs.Isolation.{isolation}
 use Rattle.walk.proofs.Together.{padded}
 
 abbrev column : TFormType → ℕ → Column
-column f at = record { form = f; count = 1; start = at; name = None }
+column f at = record { form = f; count = 1; start = at; name = None; scaling_given = false; scaling = no_scaling }
 
 -- two rows of a descriptor `1PB` and an `1I`, four bytes before the heap, and six in it
 abbrev pub table : BinTable
@@ -127,7 +132,7 @@ header =
     ++ replicate (24 * 80) 32
 
 pub both_accepted : (entry header area_a ≡ accepted table) × (entry header area_b ≡ accepted table)
-unfolding header padded bytes same front spaces trim follows decimal closing card_at is_end has_value name_of digits_value integer_value string_value value_from field_value value_of range numeral indexed single once_roots once_names flat_map position records has_end before_end names repeated_after bad_length check1 check2 check3 checked names_read among letter_width repeat_count element_among element_of first_element kind_of form_of row_bytes first_refusal required limited theap_check nine nine_checks column_check column_checks columns_from layout_of check9 check10 header_checks all_checks
+unfolding header padded bytes same front spaces trim follows decimal closing card_at is_end has_value name_of digits_value integer_value string_value value_from field_value value_of range numeral indexed single once_roots once_names flat_map position records has_end before_end names repeated_after bad_length check1 check2 check3 checked names_read among letter_width repeat_count element_among element_of first_element kind_of form_of row_bytes first_refusal required limited theap_check nine nine_checks check16 scaling_given scaling_of column_check column_checks columns_from layout_of check9 check10 header_checks all_checks
 both_accepted = (refl, refl)
 
 -- the choice of column 0, of a column that is repeated, and of one that is unknown
@@ -135,20 +140,23 @@ pub choice_one : choice_of table (listed (0 ∷ 9 ∷ 0 ∷ [])) ≡ 1
 unfolding choice_from among
 choice_one = refl
 
--- what both give: the two bytes that row 0 names, then refusal 13 of column 0, which stays; after a seek the first byte again
+-- what both give: the two bytes that row 0 names, the second scaled, then refusal 13 of column 0, which stays; after a seek the first byte again
 abbrev steps : List Step
-steps = read_cell ∷ read_cell ∷ read_cell ∷ read_row [] ∷ seek 0 ∷ read_cell ∷ []
+steps = read_cell plain ∷ read_cell scaled ∷ read_cell plain ∷ read_row scaled [] ∷ seek 0 ∷ read_cell plain ∷ []
+
+abbrev double : ℕ → DataValue
+double bits = Double (of_bits binary64 bits) bits
 
 abbrev cell_at : ℕ → ℕ → Cell
 cell_at i b = cell_of 0 0 i (UnsignedByte b)
 
 pub replies : List ℕ → List Reply
-unfolding run cursor_step belongs fits layout_ok columns_ok choice_ok place_ok walk_step next gather row_entries columns_entries column_entries entries_of cells chosen field_of field field32 array item word letter_width among bytes
+unfolding add mul eq of_int of_bits to_bits round shifts_by run cursor_step belongs fits layout_ok columns_ok choice_ok place_ok walk_step next gather row_entries columns_entries column_entries entries_of cells chosen field_of field field32 array item word letter_width among bytes
 replies a = map (λ (o : StepResult). o.reply) (run table a (cursor_at 1 true start) steps)
 
-pub both_reply : (replies area_a ≡ got_cell (cell_at 0 80) ∷ got_cell (cell_at 1 90) ∷ refused 13 0 ∷ refused 13 0 ∷ sought ∷ got_cell (cell_at 0 80) ∷ [])
+pub both_reply : (replies area_a ≡ got_cell (cell_at 0 80) ∷ got_cell (cell_of 0 0 1 (double 0x4056800000000000)) ∷ refused 13 0 ∷ refused 13 0 ∷ sought ∷ got_cell (cell_at 0 80) ∷ [])
     × (replies area_a ≡ replies area_b)
-unfolding replies
+unfolding replies of_bits
 both_reply = (refl, refl)
 
 -- so the theorem applies to these two areas: its premises are met

@@ -48,7 +48,7 @@ counted : (l : BinTable) (a : List ℕ) (sel : Selection) (heap : Bool) (xs : Li
 counted l a sel heap xs ha hc =
     let rows = row_entries l a (choice_of l sel) heap in
     subst (Counted 0 xs) (sym (walked l a sel heap xs ha hc))
-    (walk_counts rows l.naxis2 (choice_of l sel) heap 0 start xs (start_ok rows l.naxis2) refl)
+    (walk_counts l rows l.naxis2 (choice_of l sel) heap 0 start xs (start_ok rows l.naxis2) refl)
 
 same_steps : (l : BinTable) (a b : List ℕ) (sel : Selection) (heap : Bool) (xs : List Step)
     → fits l a ≡ true → fits l b ≡ true → choice_ok l (choice_of l sel) ≡ true → Agree l a b (choice_of l sel) heap
@@ -57,7 +57,7 @@ same_steps l a b sel heap xs ha hb hc agree =
     let choice = choice_of l sel in
     let wa = walked l a sel heap xs ha hc in
     let wb = walked l b sel heap xs hb hc in
-    let one = ap (λ (rows : ℕ → List Entry). walk rows l.naxis2 start xs) (rows_same l a b choice heap agree) in
+    let one = ap (λ (rows : ℕ → List Entry). walk l rows l.naxis2 start xs) (rows_same l a b choice heap agree) in
     record {
       walked_a = wa;
       walked_b = wb;

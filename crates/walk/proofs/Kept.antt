@@ -12,11 +12,14 @@ use Rattle.cell.specs.declared.Field.{Field}
 use Rattle.cell.specs.declared.Field.TheVariants as F
 use Rattle.cell.specs.Item.{width, BitsKept}
 use Rattle.cell.proofs.Kept.{item_kept, field_kept}
+use Rattle.cell.proofs.ScaledLaws.{scaled_bits}
 use Rattle.walk.specs.declared.TableData.{TableData}
-use Rattle.walk.specs.Plain.{column_of, field_at, field_of, item_at, entries_of}
+use Rattle.walk.specs.declared.Reading.{Reading}
+use Rattle.walk.specs.Plain.{column_of, field_at, field_of, item_at, entries_of, row_entries}
 use Rattle.walk.specs.Walk.{Step}
 use Rattle.walk.specs.Step.{cursor_step}
-use Rattle.walk.proofs.Handed.{OfEntries, OfReply, cells_all, rows_all, step_all}
+use Rattle.walk.specs.Readings.{reading_of}
+use Rattle.walk.proofs.Handed.{OfEntries, OfReply, cells_all, rows_all, rows_in, step_all}
 
 abbrev pub Kept : Cell → Type 0
 Kept x = BitsKept x.value
@@ -34,7 +37,10 @@ pub handed_kept : (l : BinTable) (a : List ℕ) (c : TableData) (x : Step) → O
 unfolding field_of
 handed_kept l a c x =
     step_all Kept l a c x
+    (rows_in (λ (m : Reading). Kept) l (row_entries l a c.choice c.heap)
+    (λ (y : Cell). scaled_bits (column_of l y.column).scaling y.value)
     (rows_all Kept l a c.choice c.heap
     (λ r k hr hk e.
     entries_kept (column_of l k) a r k (field_of l a c.heap r k)
     (field_kept a (field_at l r k) (column_of l k) c.heap l.theap (data_size l))))
+    (reading_of x))

@@ -14,3 +14,7 @@ pub mod InOrder
 pub mod Examples
 pub mod Together
 pub mod Empty
+pub mod Readings
+pub mod Unscaled
+pub mod ColumnScaling
+pub mod ScaledTables

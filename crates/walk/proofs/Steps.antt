@@ -1,7 +1,7 @@
 -- The calls, case by case: what each comes to where a function has found out which case it is.
 -- Assumes nothing.
 use Prim.Native.Nat.{ℕ, ◌-◌, ◌<◌}
-use mathlib.Core.Path.{◌≡◌}
+use mathlib.Core.Path.{◌≡◌, refl, ap, ◌∙◌}
 use mathlib.Core.Bool.{Bool, true, false, cond, ◌&&◌}
 use mathlib.Core.List.{List}
 use lib.Dec.{ltb}
@@ -10,8 +10,15 @@ use Rattle.ascii.proofs.Cases.{both}
 use Rattle.layout.specs.declared.BinTable.{BinTable}
 use Rattle.walk.specs.declared.TableData.{TableData}
 use Rattle.walk.specs.Plain.{row_entries}
-use Rattle.walk.specs.Walk.{Step, read_cell, seek, lent, refused, start, Next, next, cell_outcome, seek_outcome, place_ok, walk_step}
+use Rattle.walk.specs.declared.Entry.TheVariants as E
+use Rattle.walk.specs.declared.Reading.{Reading}
+use Rattle.walk.specs.declared.Reading.TheVariants.{Plain, Scaled}
+use Rattle.walk.specs.declared.How.{How}
+use Rattle.walk.specs.Scaled.{plain}
+use Rattle.walk.specs.Readings.{entry_as, in_result}
+use Rattle.walk.specs.Walk.{Step, read_cell, seek, lent, refused, start, Next, entry_at, no_entry, next, cell_outcome, seek_outcome, place_ok, walk_step}
 use Rattle.walk.specs.Step.{fits, choice_ok, belongs, state_of, cursor_at, Selection, wanted, choice_of, opened, not_opened, open_with, with_cursor, cursor_step}
+use Rattle.walk.proofs.Readings.{step_in}
 use Rattle.walk.proofs.Choice.{choice_any, chosen_of, chosen_some, choice_none}
 
 -- ---- opening
@@ -43,11 +50,30 @@ unfolding cursor_step
 step_unfit l a c x e = rw e
 
 module _ (l : BinTable) (a : List ℕ) (c : TableData) (fit : belongs l a c ≡ true) where
-  -- a cell read at the next entry, whichever it is
+  -- a plain cell read at the next entry, whichever it is
   pub cell_at : (x : Next) → next (row_entries l a c.choice c.heap) l.naxis2 (l.naxis2 - c.row) c.row c.passed ≡ x
-      → cursor_step l a c read_cell ≡ with_cursor c.choice c.heap (cell_outcome (row_entries l a c.choice c.heap) l.naxis2 (state_of c) x)
+      → cursor_step l a c (read_cell plain) ≡ with_cursor c.choice c.heap (cell_outcome (row_entries l a c.choice c.heap) l.naxis2 (state_of c) plain x)
   unfolding cursor_step walk_step
   cell_at x e = rw (fit, e)
+
+  -- a cell read in any reading: at the next entry of the plain lists, in that reading
+  abbrev next_as : Reading → Next → Next
+  next_as m no_entry = no_entry
+  next_as m (entry_at r p e) = entry_at r p (entry_as l m e)
+
+  as_read : (m : Reading) (x : Next)
+      → in_result l m (with_cursor c.choice c.heap (cell_outcome (row_entries l a c.choice c.heap) l.naxis2 (state_of c) plain x))
+      ≡ with_cursor c.choice c.heap (cell_outcome (row_entries l a c.choice c.heap) l.naxis2 (state_of c) plain (next_as m x))
+  as_read Plain no_entry = refl
+  as_read Plain (entry_at r p e) = refl
+  as_read Scaled no_entry = refl
+  as_read Scaled (entry_at r p (E.Cell k)) = refl
+  as_read Scaled (entry_at r p (E.OutsideHeap k)) = refl
+
+  pub read_at : (how : How) (x : Next) → next (row_entries l a c.choice c.heap) l.naxis2 (l.naxis2 - c.row) c.row c.passed ≡ x
+      → cursor_step l a c (read_cell how)
+      ≡ with_cursor c.choice c.heap (cell_outcome (row_entries l a c.choice c.heap) l.naxis2 (state_of c) plain (next_as how.reading x))
+  read_at how x e = step_in l a c (read_cell how) ∙ ap (in_result l how.reading) (cell_at x e) ∙ as_read how.reading x
 
   pub seek_at : (r : ℕ) → cursor_step l a c (seek r) ≡ with_cursor c.choice c.heap (seek_outcome l.naxis2 (state_of c) r)
   unfolding cursor_step walk_step

@@ -2,10 +2,9 @@
 -- the contracts cite, and the four cells from the bytes of the header and of the data area, by the entry, the opening and the steps.
 -- Assumes nothing.
 use Rattle.std.specs.Prelude.{Some}
-use Prim.Native.Nat.{ℕ, ◌-◌, ◌*◌}
-use Prim.Native.String.{String}
+use Prim.Native.Nat.{ℕ, ◌*◌}
 use mathlib.Core.Path.{◌≡◌, refl, ap}
-use mathlib.Core.Bool.{true}
+use mathlib.Core.Bool.{true, false}
 use mathlib.Core.List.{List, [], ◌∷◌, ◌++◌, map, flat_map}
 use lib.ListN.{length, get_or, replicate}
 use lib.IntN.{pos, negsuc}
@@ -22,24 +21,22 @@ use Rattle.tform.specs.Width.{among, letter_width}
 use Rattle.tform.specs.Form.{repeat_count, element_among, element_of, first_element, kind_of, form_of}
 use Rattle.tform.proofs.Examples.{Size, takes, bad, size_of}
 use Rattle.layout.specs.declared.BinTable.{BinTable}
-use Rattle.layout.specs.Layout.{no_column, row_bytes, columns_ok, layout_ok}
-use Rattle.bintable.specs.Checks.{first_refusal}
-use Rattle.bintable.specs.Entry.{required, limited, theap_check, nine, nine_checks, column_check, column_checks, columns_from, layout_of, check9, check10, header_checks, all_checks, accepted, entry}
+use Rattle.layout.specs.Layout.{no_scaling, no_column, row_bytes, columns_ok, layout_ok}
+use Rattle.bintable.specs.Checks.{check16, scaling_given, first_refusal}
+use Rattle.bintable.specs.Entry.{scaling_of, required, limited, theap_check, nine, nine_checks, column_check, column_checks, columns_from, layout_of, check9, check10, header_checks, all_checks, accepted, entry}
+unfoldable pub use Rattle.bintable.proofs.ScaledHeaders.{padded}
 use Rattle.cell.specs.declared.DataValue.TheVariants as D
 use Rattle.cell.specs.declared.Cell.{Cell}
 use Rattle.cell.specs.Item.{word, item}
 use Rattle.cell.specs.Field.{field}
 use Rattle.walk.specs.declared.TableData.{TableData}
 use Rattle.walk.specs.Plain.{field_of, cell_of, cells, entries_of, chosen, column_entries, columns_entries, row_entries}
+use Rattle.walk.specs.Scaled.{plain}
 use Rattle.walk.specs.Walk.{read_cell, Reply, got_cell, at_end, refused, start, next, place_ok, walk_step}
 use Rattle.walk.specs.Step.{all_columns, fits, choice_ok, belongs, cursor_at, choice_from, opened, open_with, StepResult, cursor_step, run}
 use Rattle.walk.proofs.Examples.{area}
 
 -- ---- the header of the request's example; its data area is that of Examples
-
--- a record: its text, and spaces up to 80 bytes
-unfoldable pub padded : String → List ℕ
-padded text = bytes text ++ replicate (80 - length (bytes text)) 32
 
 -- 13 records and 23 blank ones: one block of 2,880 bytes
 unfoldable pub header : List ℕ
@@ -73,13 +70,13 @@ table =
       theap = 12;
       tfields = 2;
       columns =
-          record { form = F.Items T.I; count = 1; start = 0; name = Some (record { start = 731; len = 3 }) }
-          ∷ record { form = F.Items T.J; count = 1; start = 2; name = Some (record { start = 891; len = 2 }) }
+          record { form = F.Items T.I; count = 1; start = 0; name = Some (record { start = 731; len = 3 }); scaling_given = false; scaling = no_scaling }
+          ∷ record { form = F.Items T.J; count = 1; start = 2; name = Some (record { start = 891; len = 2 }); scaling_given = false; scaling = no_scaling }
           ∷ replicate 62 no_column;
     }
 
 pub enters : entry header area ≡ accepted table
-unfolding header table padded bytes same front spaces trim follows decimal closing card_at is_end has_value name_of digits_value integer_value string_value value_from field_value value_of range numeral indexed single once_roots once_names flat_map position records has_end before_end names repeated_after bad_length check1 check2 check3 checked names_read among letter_width repeat_count element_among element_of first_element kind_of form_of row_bytes first_refusal required limited theap_check nine nine_checks column_check column_checks columns_from layout_of check9 check10 header_checks all_checks
+unfolding header table padded bytes same front spaces trim follows decimal closing card_at is_end has_value name_of digits_value integer_value string_value value_from field_value value_of range numeral indexed single once_roots once_names flat_map position records has_end before_end names repeated_after bad_length check1 check2 check3 checked names_read among letter_width repeat_count element_among element_of first_element kind_of form_of row_bytes first_refusal required limited theap_check nine nine_checks check16 scaling_given scaling_of column_check column_checks columns_from layout_of check9 check10 header_checks all_checks
 enters = refl
 
 -- the cursor on all columns with the heap on
@@ -116,7 +113,7 @@ examples =
 
 -- the replies of five cell reads from a cursor
 abbrev pub replies : BinTable → TableData → List Reply
-replies l c = map (λ (o : StepResult). o.reply) (run l area c (replicate 5 read_cell))
+replies l c = map (λ (o : StepResult). o.reply) (run l area c (replicate 5 (read_cell plain)))
 
 -- the entry accepts the header and the area with some layout, opening on it gives some cursor, and reply k from there on is r
 pub record ReadsAs (k : ℕ) (r : Reply) : Type 0 where

@@ -2,3 +2,5 @@ pub mod Plain
 pub mod Walk
 pub mod Step
 pub mod Agree
+pub mod Scaled
+pub mod Readings

@@ -99,7 +99,7 @@ with_cursor choice heap o = record { reply = o.reply; cursor = cursor_at choice 
 unfoldable pub cursor_step : BinTable → List ℕ → TableData → Step → StepResult
 cursor_step l a c x =
     cond (belongs l a c)
-    (with_cursor c.choice c.heap (walk_step (row_entries l a c.choice c.heap) l.naxis2 (state_of c) x))
+    (with_cursor c.choice c.heap (walk_step l (row_entries l a c.choice c.heap) l.naxis2 (state_of c) x))
     (record { reply = refused 10 0; cursor = c; list = lent x })
 
 -- a list of steps: each gets the cursor that the last one returned or left
@@ -110,7 +110,7 @@ run l a c (x ∷ xs) = let o = cursor_step l a c x in o ∷ run l a o.cursor xs
 -- the request's term "plain walk", from the start: it is fed the layout, data area, choice and heap setting, and each step's
 -- arguments, and nothing from a cursor
 abbrev pub plain_walk : BinTable → List ℕ → ℕ → Bool → List Step → List Outcome
-plain_walk l a choice heap xs = walk (row_entries l a choice heap) l.naxis2 start xs
+plain_walk l a choice heap xs = walk l (row_entries l a choice heap) l.naxis2 start xs
 
 -- ---- what the code's step returned
 

@@ -5,11 +5,14 @@ use Rattle.std.specs.Prelude.{ℕ, zero, suc, ◌+◌, ◌-◌, min, Bool, cond,
 use Rattle.cell.specs.declared.Cell.{Cell}
 use Rattle.walk.specs.declared.Entry.{Entry}
 use Rattle.walk.specs.declared.Entry.TheVariants as E
+use Rattle.layout.specs.declared.BinTable.{BinTable}
+use Rattle.walk.specs.declared.How.{How}
+use Rattle.walk.specs.Scaled.{in_reading}
 
--- a step's arguments: a row read has its list as lent, a seek its row
+-- a step's arguments: a read has its reading, a row read its list as lent too, a seek its row
 pub data Step : Type 0 where
-  read_cell : Step
-  read_row : List Cell → Step
+  read_cell : How → Step
+  read_row : How → List Cell → Step
   seek : ℕ → Step
 
 -- what a step answers: a cell, the count of a row read, that the row was sought, the end, or the number and place of a refusal
@@ -38,8 +41,8 @@ pub record Outcome : Type 0 where
 
 -- the list lent with a step
 abbrev pub lent : Step → List Cell
-lent read_cell = []
-lent (read_row list) = list
+lent (read_cell how) = []
+lent (read_row how list) = list
 lent (seek r) = []
 
 -- where the count stops
@@ -89,16 +92,16 @@ gather (E.OutsideHeap k ∷ es) = outside k
 abbrev pub pass : State → ℕ → ℕ → ℕ → State
 pass s size r p = cond (ltb (suc p) size) (placed s r (suc p)) (placed s (suc r) 0)
 
--- a cell read at that entry: a cell is handed out and passed; at a 13 nothing moves
-abbrev pub entry_outcome : State → ℕ → ℕ → ℕ → Entry → Outcome
-entry_outcome s size r p (E.Cell c) = record { reply = got_cell c; list = []; state = pass (grown s read_cell 1) size r p }
-entry_outcome s size r p (E.OutsideHeap k) = refusal s read_cell 13 k
+-- a cell read at that entry: a cell is handed out and passed; at a 13 nothing moves. The entry is one of the read's reading
+abbrev pub entry_outcome : State → How → ℕ → ℕ → ℕ → Entry → Outcome
+entry_outcome s how size r p (E.Cell c) = record { reply = got_cell c; list = []; state = pass (grown s (read_cell how) 1) size r p }
+entry_outcome s how size r p (E.OutsideHeap k) = refusal s (read_cell how) 13 k
 
 -- a seek to the start of row r of n rows: at a 12 nothing moves
 abbrev pub seek_outcome : ℕ → State → ℕ → Outcome
 seek_outcome n s r = cond (ltb r n) (record { reply = sought; list = []; state = placed s r 0 }) (refusal s (seek r) 12 r)
 
--- `rows r` is the plain list of row r, and n the number of rows
+-- `rows r` is the list of row r, the plain one or that of the other reading, and n the number of rows
 module _ (rows : ℕ → List Entry) (n : ℕ) where
   -- a place belongs if its row is below n with 0 entries passed or fewer than that row has, or is n with 0
   unfoldable pub place_ok : ℕ → ℕ → Bool
@@ -113,21 +116,21 @@ module _ (rows : ℕ → List Entry) (n : ℕ) where
       cond (ltb p (length (rows r))) (entry_at r p (get_or (rows r) p (E.OutsideHeap 0))) later
 
   -- a cell read: with no entry left the place is row n
-  abbrev pub cell_outcome : State → Next → Outcome
-  cell_outcome s no_entry = record { reply = at_end; list = []; state = placed s n 0 }
-  cell_outcome s (entry_at r p e) = entry_outcome s (length (rows r)) r p e
+  abbrev pub cell_outcome : State → How → Next → Outcome
+  cell_outcome s how no_entry = record { reply = at_end; list = []; state = placed s n 0 }
+  cell_outcome s how (entry_at r p e) = entry_outcome s how (length (rows r)) r p e
 
   -- a row read: the rest of the row's cells to the front of the list, then the next row's start; the first 13 comes before 14
-  abbrev pub row_outcome : State → List Cell → Gathered → Outcome
-  row_outcome s list (outside k) = refusal s (read_row list) 13 k
-  row_outcome s list (all_cells cs) =
+  abbrev pub row_outcome : State → How → List Cell → Gathered → Outcome
+  row_outcome s how list (outside k) = refusal s (read_row how list) 13 k
+  row_outcome s how list (all_cells cs) =
       cond (leb (length cs) (length list))
       (record {
         reply = got_row (length cs);
         list = cs ++ drop (length cs) list;
-        state = placed (grown s (read_row list) (length cs)) (suc s.row) 0;
+        state = placed (grown s (read_row how list) (length cs)) (suc s.row) 0;
       })
-      (refusal s (read_row list) 14 (length cs))
+      (refusal s (read_row how list) 14 (length cs))
 
   -- the next entry, and what is left of the row
   abbrev pub next_entry : State → Next
@@ -135,12 +138,6 @@ module _ (rows : ℕ → List Entry) (n : ℕ) where
 
   abbrev pub rest : State → Gathered
   rest s = gather (drop s.passed (rows s.row))
-
-  unfoldable pub walk_step : State → Step → Outcome
-  walk_step s read_cell = cell_outcome s (next_entry s)
-  walk_step s (read_row list) =
-      cond (ltb s.row n) (row_outcome s list (rest s)) (record { reply = at_end; list = list; state = s })
-  walk_step s (seek r) = seek_outcome n s r
 
   -- the entries of k rows from row r on, in their order
   unfoldable pub entries_from : ℕ → ℕ → List Entry
@@ -151,6 +148,17 @@ module _ (rows : ℕ → List Entry) (n : ℕ) where
   abbrev pub entries_left : ℕ → ℕ → ℕ → List Entry
   entries_left zero r p = []
   entries_left (suc k) r p = drop p (rows r) ++ entries_from (suc r) k
+
+-- `rows r` is the plain list of row r of a layout, and n the number of rows
+module _ (l : BinTable) (rows : ℕ → List Entry) (n : ℕ) where
+  unfoldable pub walk_step : State → Step → Outcome
+  walk_step s (read_cell how) =
+      let seen = in_reading l how.reading rows in
+      cell_outcome seen n s how (next_entry seen n s)
+  walk_step s (read_row how list) =
+      let seen = in_reading l how.reading rows in
+      cond (ltb s.row n) (row_outcome seen n s how list (rest seen n s)) (record { reply = at_end; list = list; state = s })
+  walk_step s (seek r) = seek_outcome n s r
 
   -- the request's term "plain walk": the outcome of each step, from what is kept on. `plain_walk` in Step has what it is fed
   unfoldable pub walk : State → List Step → List Outcome

@@ -3,11 +3,14 @@
 // row/proofs/Runs the theorem about it.
 #![tactic(auto)]
 
+mod scaled;
+
 ghost use Rattle.std.specs.Prelude.{◌≡◌, ◌+◌, min};
 ghost use Rattle.walk.specs.Walk.{stop};
 
 use cell::Cell;
 use refusal::Refusal;
+pub use scaled::{entry_as, entry_by};
 
 // Where a cursor's count stops.
 pub const COUNT_STOP: u32 = u32::MAX;
@@ -21,6 +24,19 @@ pub struct TableData {
     pub row: u64,
     pub passed: u64,
     pub count: u32,
+}
+
+// The two readings: cells as they are stored, and scaled by the factor and the zero of their columns.
+#[derive(Clone, Copy)]
+pub enum Reading {
+    Plain,
+    Scaled,
+}
+
+// How a read hands out its cells.
+#[derive(Clone, Copy)]
+pub struct How {
+    pub reading: Reading,
 }
 
 // An entry of a row's plain list: a cell, or an array of this column that ends past the heap. It is no Result, since

@@ -144,6 +144,26 @@ array_text place =
 abbrev pub list_text : List ℕ → List ℕ
 list_text place = concat (codes "the list is shorter than what is left of the row, " ∷ place ∷ codes " cells" ∷ [])
 
+-- 15
+abbrev pub unsuitable_text : List ℕ
+unsuitable_text =
+    concat
+    (codes "the column is missing, not of a type that is taken here or scaled by TSCALn or TZEROn, "
+    ∷ codes "or there is no such edition"
+    ∷ [])
+
+-- 16
+abbrev pub scaling_text : List ℕ → List ℕ
+scaling_text place =
+    concat
+    (codes "TSCAL"
+    ∷ place
+    ∷ codes " or TZERO"
+    ∷ place
+    ∷ codes " is not a number that this reader takes, is given twice, or stands at a column whose type "
+    ∷ codes "has no scaling: those of B, I, J, K, E and D have one"
+    ∷ [])
+
 -- what refused the table, with its place as text
 abbrev pub cause_text : List ℕ → Refusal → List ℕ → List ℕ
 cause_text place R.BadLength file = length_text file
@@ -162,8 +182,8 @@ cause_text place R.NoColumn file = no_column_text
 cause_text place (R.NoSuchRow r) file = row_text place
 cause_text place (R.ArrayOutsideHeap c) file = array_text place
 cause_text place (R.ShortList n) file = list_text place
-cause_text place R.Unsuitable file =
-    codes "the column is missing or not of a type that is taken here, or there is no such edition"
+cause_text place R.Unsuitable file = unsuitable_text
+cause_text place (R.InvalidScaling n) file = scaling_text place
 cause_text place R.BufferMismatch file = codes "the two buffers differ in length, or are shorter than the table"
 
 -- what follows 1 to 4 of a file that begins as a whole FITS file does

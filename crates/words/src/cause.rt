@@ -1,7 +1,7 @@
 // What refused the table.
 ghost use Rattle.std.specs.Prelude.{◌≡◌, [], ◌∷◌, map};
 ghost use Rattle.std.specs.List.{concat};
-ghost use Rattle.words.specs.Words.{length_text, missing_text, cause_text};
+ghost use Rattle.words.specs.Words.{length_text, missing_text, scaling_text, cause_text};
 
 use crate::{CAUSE_PIECES, names, required};
 use refusal::Refusal;
@@ -14,8 +14,12 @@ const NO_FORM: &[u8] = b" is no form that can be read: \
 const NO_COLUMN: &[u8] = b"no column is left in the choice: the table has none, \
     or none of the chosen indexes, counted from 0, is one of its columns";
 
-const NO_SUITABLE_COLUMN: &[u8] = b"the column is missing or not of a type that is taken here, \
-    or there is no such edition";
+const NO_SUITABLE_COLUMN: &[u8] = b"the column is missing, not of a type that is taken here \
+    or scaled by TSCALn or TZEROn, or there is no such edition";
+
+// What is no scaling, after its keywords.
+const BAD_SCALING: &[u8] = b" is not a number that this reader takes, is given twice, \
+    or stands at a column whose type has no scaling: those of B, I, J, K, E and D have one";
 
 // A text of one piece.
 fn one(text: &[u8]) -> [&[u8]; CAUSE_PIECES]
@@ -53,6 +57,13 @@ fn missing_name<'a>(file: &'a [u8], n: usize, place: &'a [u8]) -> [&'a [u8]; CAU
     three(b"TFORM", place, b" is missing")
 }
 
+// The words of refusal 16.
+fn scaling(place: &[u8]) -> [&[u8]; CAUSE_PIECES]
+    ensures { concat (map (λ p. p.now) result) ≡ scaling_text place.now }
+{
+    [b"TSCAL", place, b" or TZERO", place, BAD_SCALING, b""]
+}
+
 // The words of each refusal, by its cause.
 pub fn cause<'a>(refusal: Refusal, file: &'a [u8], place: &'a [u8]) -> [&'a [u8]; CAUSE_PIECES]
     ensures { concat (map (λ p. p.now) result) ≡ cause_text place.now refusal file.now }
@@ -87,6 +98,7 @@ pub fn cause<'a>(refusal: Refusal, file: &'a [u8], place: &'a [u8]) -> [&'a [u8]
             b" cells",
         ),
         Refusal::Unsuitable => one(NO_SUITABLE_COLUMN),
+        Refusal::InvalidScaling { n: _ } => scaling(place),
         Refusal::BufferMismatch => {
             one(b"the two buffers differ in length, or are shorter than the table")
         }

@@ -15,7 +15,7 @@ use Rattle.walk.specs.Plain.{column_of}
 use Rattle.walk.specs.Step.{fits}
 use Rattle.walk.proofs.Inside.{fits_layout, field_in_main}
 use Rattle.weight.specs.declared.Edition.{Edition}
-use Rattle.profile.specs.Page.{profile_page, edition_of, e_column, reply_of, wrote, refused, page_reply, page_left}
+use Rattle.profile.specs.Page.{profile_page, edition_of, page_column, reply_of, wrote, refused, page_reply, page_left}
 use Rattle.profile.specs.Lines.{lines}
 use Rattle.profile.proofs.Fits.{e_bytes, in_table, row_small, few_items}
 use Rattle.profile.proofs.Calls.{page_bytes, Refusals, page_refusals, page_refused, page_put}
@@ -57,8 +57,8 @@ module _ (c : In_ok-column) where
   edition = sym c.edition_of.ensures ∙ c.in_ok-edition.ensures.ok_part
 
   found : let a = c.args in
-      (e_column a.layout a.column ≡ true) × (column_of a.layout a.column ≡ c.in_ok-column.column)
-  found = cond_some _ _ _ (sym c.find_e_column.ensures ∙ c.in_ok-column.ensures.ok_part)
+      (page_column a.layout a.column ≡ true) × (column_of a.layout a.column ≡ c.in_ok-column.column)
+  found = cond_some _ _ _ (sym c.find_page_column.ensures ∙ c.in_ok-column.ensures.ok_part)
 
   size : c.in_ok-column.column.count * 27 ≡ page_bytes c.args.layout c.args.column
   size = rw found.1 (omega arith)
@@ -96,15 +96,15 @@ returns-in_err-edition c =
     (sym c.edition_of.ensures ∙ c.in_err-edition.ensures.ok_part) in
     record { reply = ap reply_of (edition_refused c) ∙ sym e; page = kept s 15 0 e }
 
-pub find_e_column-requires : goal.find_e_column-requires
-find_e_column-requires c =
+pub find_page_column-requires : goal.find_page_column-requires
+find_page_column-requires c =
     (limits c.args.layout (fits_layout c.args.layout c.args.area.now (sym c.if-not-fits.ensures))).columns
 
 pub returns-in_err-column : goal.returns-in_err-column
 returns-in_err-column c =
     let s = (goal.at.returns-in_err-column c).Start in
     let e = (refusals s).no_column (sym c.if-not-fits.ensures)
-    (column_missing _ _ (sym c.in_err-column.ensures.ok_part ∙ c.find_e_column.ensures)) in
+    (column_missing _ _ (sym c.in_err-column.ensures.ok_part ∙ c.find_page_column.ensures)) in
     record { reply = ap reply_of (column_refused c) ∙ sym e; page = kept s 15 0 e }
 
 pub returns-then-layout-row : goal.returns-then-layout-row

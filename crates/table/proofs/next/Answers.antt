@@ -7,6 +7,7 @@ use Rattle.ascii.proofs.Cases.{both}
 use Rattle.tform.specs.Width.{count_ok}
 use Rattle.layout.specs.Layout.{naxis2_limit, columns_of, layout_ok}
 use Rattle.walk.specs.Plain.{column_of, field_of, column_size}
+use Rattle.walk.proofs.Readings.{entry_is}
 use Rattle.walk.proofs.Inside.{fits_layout, column_in_row, items_bound}
 use Rattle.table.proofs.Scanned.{Scanned, Ready, FoundIn, sized_at, scanned_next, ready_says, ready_columns, ready_row, ready_data, ready_start, ready_few, ready_full, found_in, found_fits, found_step}
 use Rattle.table.proofs.next.Goals.{Then-ready, After-column_size-size, Then-scan-layout}
@@ -136,5 +137,5 @@ unfolding field_of
 returns-then-scan-layout c =
     let s = (goal.at.returns-then-scan-layout c).Then-scan-layout in
     c.read_entry.ensures
-    ∙ rw c.entry_of-entry.ensures
-    (sym (found_step c.args.layout c.args.area.now c.args.cursor c.loop-c.scan c.in-Some.found (all s) (ready_there s) (over s) c.if-scan-layout.true c.in-Some.is))
+    ∙ rw (c.entry_by.ensures, c.entry_of-entry.ensures, entry_is c.args.layout c.args.how.reading c.args.area.now c.args.cursor.row c.in-Some.found.column _ c.in-Some.found.idx)
+    (sym (found_step c.args.layout c.args.area.now c.args.cursor c.loop-c.scan c.in-Some.found (all s) (ready_there s) (over s) c.if-scan-layout.true c.in-Some.is c.args.how))

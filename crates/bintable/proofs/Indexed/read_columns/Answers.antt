@@ -1,4 +1,5 @@
 -- `read_columns` meets its contract: each step reads one column. At most 64 columns of a limited count: their bytes fit.
+use Rattle.std.specs.Float.Ieee.{of_bits}
 use Rattle.std.proofs.Common.{◌≡◌, ◌+◌, ◌∙◌, rules, refl, sym, ap, arith}
 use Rattle.refusal.specs.Refusal.{Outcome, before}
 use Rattle.layout.specs.Layout.{column_bytes}
@@ -7,6 +8,7 @@ use Rattle.bintable.proofs.Filled.{next, checks_none, checks_next, checks_stop, 
 use Rattle.bintable.proofs.Indexed.read_columns.Goals as goal
 
 pub loop-i-init : goal.loop-i-init
+unfolding of_bits
 loop-i-init c = (omega arith, sym (checks_none _), filled_none _ _ refl, bytes_none _)
 
 pub overflow_add-bytes : goal.overflow_add-bytes

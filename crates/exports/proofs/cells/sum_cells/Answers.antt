@@ -9,6 +9,6 @@ use Rattle.exports.proofs.cells.sum_cells.Goals.{then-this-ne0, else-this-ne0}
 pub loop-current-smaller : goal.loop-current-smaller
 loop-current-smaller g c =
     let r = c.if-this-ne0.stepped in
-    let read : cell_result r.cursor r.answer ≡ cursor_step c.args.layout c.args.area.now c.loop-current.current read_cell =
+    let read : cell_result r.cursor r.answer ≡ cursor_step c.args.layout c.args.area.now c.loop-current.current (read_cell c.args.how) =
     elim c.if-this-ne0.branch [ then-this-ne0 w ↦ rw w.stepped-is w.next-answer.ensures | else-this-ne0 w ↦ rw w.stepped-is w.next-stepped.ensures ] in
-    cell_fewer c.args.layout c.args.area.now c.loop-current.current r read c.in-Ok-Some.cell (search rules)
+    cell_fewer c.args.layout c.args.area.now c.loop-current.current c.args.how r read c.in-Ok-Some.cell (search rules)

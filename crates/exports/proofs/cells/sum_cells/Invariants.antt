@@ -7,7 +7,7 @@ use Rattle.exports.proofs.cells.sum_cells.Given as goal
 
 abbrev pub invariant-loop-current : goal.invariant-loop-current
 invariant-loop-current g l =
-    sum_then l.sum (cells_from l.layout l.area l.current) ≡ reads_sum (cells_from l.layout l.area l.fn.cursor)
+    sum_then l.sum (cells_from l.layout l.area l.how.reading l.current) ≡ reads_sum (cells_from l.layout l.area l.how.reading l.fn.cursor)
 
 abbrev pub decreases-loop-current : goal.decreases-loop-current
-decreases-loop-current g l = length (cells_from l.layout l.area l.current).cells
+decreases-loop-current g l = length (cells_from l.layout l.area l.how.reading l.current).cells

@@ -7,8 +7,8 @@ use Rattle.exports.proofs.rows.add_rows.Given as goal
 
 abbrev pub invariant-loop-n : goal.invariant-loop-n
 invariant-loop-n l =
-    sum_then l.sum (rows_from (length l.fn.list) l.layout l.area l.current)
-    ≡ reads_sum (rows_from (length l.fn.list) l.layout l.area l.fn.cursor)
+    sum_then l.sum (rows_from (length l.fn.list) l.layout l.area l.how.reading l.current)
+    ≡ reads_sum (rows_from (length l.fn.list) l.layout l.area l.how.reading l.fn.cursor)
 
 abbrev pub decreases-loop-n : goal.decreases-loop-n
 decreases-loop-n l = l.layout.naxis2 - l.current.row

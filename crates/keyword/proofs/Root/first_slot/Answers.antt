@@ -12,11 +12,15 @@ named : (r : Root) (k : ℕ) → k < column_slots → get_or slot_names (9 + tag
 unfolding once_roots other_roots
 named R.Tform k h = rooted_name 0 k (omega arith) h
 named R.Ttype k h = rooted_name 1 k (omega arith) h
+named R.Tscal k h = rooted_name 2 k (omega arith) h
+named R.Tzero k h = rooted_name 3 k (omega arith) h
 
 inside : (r : Root) → 9 + tag_of the_type r * column_slots + column_slots ≤ length slot_names
 unfolding single once_roots other_roots
 inside R.Tform = omega (arith, slots_length)
 inside R.Ttype = omega (arith, slots_length)
+inside R.Tscal = omega (arith, slots_length)
+inside R.Tzero = omega (arith, slots_length)
 
 pub returns-clause-names : goal.returns-clause-names
 returns-clause-names c = named c.args.self

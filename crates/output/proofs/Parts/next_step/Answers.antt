@@ -19,20 +19,21 @@ returns-in-Cell c =
     let y = sym (c.in-Some.is ∙ ap Some c.in-Cell.is) ∙ c.parse_command.ensures in
     rw c.cell_answered-next.ensures
     (cell_next_lem a.self.now.header.now a.self.now.layout a.self.now.area.now a.self.now.steps.now (a.at + length line + 1) a.cursor
-    c.next.result c.next.ensures
-    ∙ steps_command a.self.now.layout a.self.now.area.now a.self.now.steps.now a.at a.cursor line (Some C.Cell) c.if-self-at.false c.line_at-line.ensures y)
+    c.in-Cell.how c.next.result c.next.ensures
+    ∙ steps_command a.self.now.layout a.self.now.area.now a.self.now.steps.now a.at a.cursor line (Some (C.Cell c.in-Cell.how)) c.if-self-at.false c.line_at-line.ensures y)
 
 pub returns-in-Row : goal.returns-in-Row
 returns-in-Row c =
     let a = c.args in
     let line = c.line_at-line.result.now in
-    let n = c.in-Row.n in
+    let how = c.in-Row.how in
+    let n = c.in-Row.cells in
     let y = sym (c.in-Some.is ∙ ap Some c.in-Row.is) ∙ c.parse_command.ensures in
     rw c.row_answered-next.ensures
     (row_next_lem a.self.now.header.now a.self.now.layout a.self.now.area.now a.self.now.steps.now (a.at + length line + 1) a.cursor
-    n c.row_cell-read.result.stepped
-    (row_few line n (sym y)) (rw c.blank_cell-blank.ensures at c.row_cell-read.ensures.step)
-    ∙ steps_command a.self.now.layout a.self.now.area.now a.self.now.steps.now a.at a.cursor line (Some (C.Row n)) c.if-self-at.false c.line_at-line.ensures y)
+    how n c.row_cell-read.result.stepped
+    (row_few line how n (sym y)) (rw c.blank_cell-blank.ensures at c.row_cell-read.ensures.step)
+    ∙ steps_command a.self.now.layout a.self.now.area.now a.self.now.steps.now a.at a.cursor line (Some (C.Row how n)) c.if-self-at.false c.line_at-line.ensures y)
 
 pub returns-in-Seek : goal.returns-in-Seek
 returns-in-Seek c =

@@ -5,5 +5,5 @@ use Rattle.cell.proofs.Widths.{width_pos}
 use Rattle.row.proofs.fill.fill_items.Goals as goal
 
 pub overflow_add-idx : goal.overflow_add-idx
-overflow_add-idx c =
+overflow_add-idx g c =
     omega (arith, c.requires.1 c.loop-i.i c.loop-i-test.true, mul-le-mul_left (c.args.plan.first + c.loop-i.i) (width_pos c.args.ty))

@@ -43,14 +43,14 @@ none_later l a choice heap r k h = rw (from_end l a choice heap r k h)
 
 -- the tests of `ready` held
 module _ (c : At-loop-c) where
-  said : Ready c.args.layout c.args.area.now c.args.cursor.choice c.args.cursor.row
-  said = ready_says c.args.layout c.args.area.now c.args.cursor (rw c.from.ensures at (sym c.if-not-ready.ensures))
+  said : Ready c.args.layout.now c.args.area.now c.args.cursor.choice c.args.cursor.row
+  said = ready_says c.args.layout.now c.args.area.now c.args.cursor (rw c.from.ensures at (sym c.if-not-ready.ensures))
 
-  few_columns : c.args.layout.tfields ≤ 64
+  few_columns : c.args.layout.now.tfields ≤ 64
   few_columns = ready_columns _ _ _ _ said
 
-  full : length (columns_of c.args.layout) ≡ c.args.layout.tfields
-  full = ready_full c.args.layout (omega arith) few_columns
+  full : length (columns_of c.args.layout.now) ≡ c.args.layout.now.tfields
+  full = ready_full c.args.layout.now (omega arith) few_columns
 
 pub bounds-layout-c : goal.bounds-layout-c
 bounds-layout-c c = omega (arith, few_columns (goal.at.bounds-layout-c c).At-loop-c)
@@ -60,14 +60,14 @@ offset_bounds-layout-c c = omega (arith, few_columns (goal.at.offset_bounds-layo
 
 pub overflow_add-at : goal.overflow_add-at
 overflow_add-at c =
-    let l = c.args.layout in
+    let l = c.args.layout.now in
     let k = c.loop-c.c in
     let o = ordered l c.args.cursor.choice k c.loop-c.at _ c.chosen-is_chosen.ensures c.if-not-plain_in_order.ensures in
     omega (arith, c.num_bytes_field-at.ensures, c.loop-c.invariant.summed.bytes, few_columns (goal.at.overflow_add-at c).At-loop-c, column_limit (column_of l k) o.count)
 
 pub loop-c-preserved : goal.loop-c-preserved
 loop-c-preserved c =
-    let l = c.args.layout in
+    let l = c.args.layout.now in
     let a = c.args.area.now in
     let r = c.args.cursor in
     let k = c.loop-c.c in
@@ -84,23 +84,23 @@ loop-c-preserved c =
     }
 
 -- all columns are passed
-over : (c : At-loop-c) → c.args.layout.tfields ≤ c.loop-c.c
-    → Summed c.args.layout c.args.area.now c.args.cursor.choice c.args.cursor.heap c.args.cursor.row c.args.layout.tfields c.loop-c.at c.loop-c.cells
+over : (c : At-loop-c) → c.args.layout.now.tfields ≤ c.loop-c.c
+    → Summed c.args.layout.now c.args.area.now c.args.cursor.choice c.args.cursor.heap c.args.cursor.row c.args.layout.now.tfields c.loop-c.at c.loop-c.cells
 over c h =
-    let e : c.loop-c.c ≡ c.args.layout.tfields = omega arith in
-    subst (λ (n : ℕ). Summed c.args.layout c.args.area.now c.args.cursor.choice c.args.cursor.heap c.args.cursor.row n c.loop-c.at c.loop-c.cells) e c.loop-c.invariant.summed
+    let e : c.loop-c.c ≡ c.args.layout.now.tfields = omega arith in
+    subst (λ (n : ℕ). Summed c.args.layout.now c.args.area.now c.args.cursor.choice c.args.cursor.heap c.args.cursor.row n c.loop-c.at c.loop-c.cells) e c.loop-c.invariant.summed
 
 pub invariant_of-row : goal.invariant_of-row
 invariant_of-row c =
     let s = (goal.at.invariant_of-row c).At-loop-c in
     record {
-      fit = summed_fits c.args.layout c.args.area.now c.args.cursor c.loop-c.at c.loop-c.cells (full s) (said s) (over s c.loop-c-test.false) c.if-at-layout.true;
+      fit = summed_fits c.args.layout.now c.args.area.now c.args.cursor c.loop-c.at c.loop-c.cells (full s) (said s) (over s c.loop-c-test.false) c.if-at-layout.true;
       inside = ready_row _ _ _ _ (said s);
     }
 
 pub returns-then-at-layout : goal.returns-then-at-layout
 returns-then-at-layout c =
-    let l = c.args.layout in
+    let l = c.args.layout.now in
     let a = c.args.area.now in
     let r = c.args.cursor in
     let s = (goal.at.returns-then-at-layout c).At-loop-c in
