@@ -1,11 +1,13 @@
 -- What a cell read says of the reads from a cursor on, and the turns of a loop of cell reads: one law for both calls.
 -- Assumes nothing.
 use Rattle.std.specs.Prelude.{Option, Some, None, Result, Ok, Err}
-use Prim.Native.Nat.{ℕ, ◌<◌}
-use mathlib.Core.Path.{◌≡◌, refl, sym, ap, subst, ◌∙◌}
-use mathlib.Core.List.{List, [], ◌∷◌}
+use Prim.Native.Nat.{ℕ, zero, suc, ◌-◌, ◌<◌}
+use mathlib.Core.Path.{◌≡◌, refl, sym, ap, subst}
+use mathlib.Core.Bool.{true, false}
+use mathlib.Core.List.{List, [], ◌∷◌, map, map-append}
 use native.Mathlib.Omega.{arith}
-use lib.ListN.{length}
+use lib.ListN.{length, drop}
+use Rattle.std.proofs.lemmas.List.{drop-map}
 use Rattle.ascii.proofs.Cases.{either}
 use Rattle.refusal.specs.declared.Refusal.{Refusal}
 use Rattle.layout.specs.declared.BinTable.{BinTable}
@@ -16,15 +18,16 @@ use Rattle.walk.specs.declared.Stepped.{Stepped}
 use Rattle.walk.specs.declared.Reading.{Reading}
 use Rattle.walk.specs.declared.Reading.TheVariants.{Plain, Scaled}
 use Rattle.walk.specs.declared.How.{How}
-use Rattle.walk.specs.Scaled.{plain}
+use Rattle.walk.specs.Plain.{row_entries}
+use Rattle.walk.specs.Scaled.{scaled_entry, in_reading, plain}
 use Rattle.walk.specs.Readings.{scaled_reply, in_result}
 use Rattle.walk.proofs.Readings.{step_in}
-use Rattle.walk.specs.Walk.{read_cell, Reply, got_cell, got_row, sought, at_end, refused}
+use Rattle.walk.specs.Walk.{read_cell, Reply, got_cell, got_row, sought, at_end, refused, entries_from, entries_left}
 use Rattle.walk.specs.Step.{StepResult, belongs, cursor_left, cursor_step, cell_reply, cell_result}
 use Rattle.walk.proofs.InOrder.{ReadLeft, read_left}
 use Rattle.exports.specs.Checksum.{add_cell, add_cells, with_number}
-use Rattle.exports.specs.Reads.{CellsRead, ended, and_then, cell_reads, reads_in}
-use Rattle.exports.specs.Loops.{cells_from, sum_then, number_in}
+use Rattle.exports.specs.Reads.{CellsRead, ended, and_then, cell_reads}
+use Rattle.exports.specs.Loops.{rows_in, cells_from, sum_then, number_in}
 
 -- with an answer and the cursor d after it: the cell and what reads from d on come to, or the end of them
 abbrev CellsLeft : BinTable → List ℕ → Reading → CellsRead → Reply → TableData → Type 0
@@ -44,40 +47,63 @@ none_left l a m o (Ok (Some x)) d k h = absurd (k x refl)
 none_left l a m o (Ok None) d k h = h
 none_left l a m o (Err q) d k h = h
 
--- the plain reads in the second reading
-module _ (l : BinTable) (a : List ℕ) where
-  by_scaled : (o : CellsRead) (q : Reply) (d : TableData) → CellsLeft l a Plain o q d
-      → CellsLeft l a Scaled (reads_in l Scaled o) (scaled_reply l q) d
-  by_scaled o (got_cell x) d h = rw h
-  by_scaled o (got_row k) d h = rw h
-  by_scaled o sought d h = rw h
-  by_scaled o at_end d h = rw h
-  by_scaled o (refused n p) d h = rw h
+-- the entries that are left of the rows in the second reading are the plain ones, scaled
+module _ (l : BinTable) (rows : ℕ → List Entry) (n : ℕ) where
+  from_scaled : (r k : ℕ) → entries_from (in_reading l Scaled rows) n r k ≡ map (scaled_entry l) (entries_from rows n r k)
+  unfolding entries_from
+  from_scaled r zero = refl
+  from_scaled r (suc k) = rw (from_scaled (suc r) k, map-append (scaled_entry l) (rows r) (entries_from rows n (suc r) k))
 
-  in_left : (m : Reading) (o : CellsRead) (r : StepResult) → CellsLeft l a Plain o r.reply r.cursor
-      → CellsLeft l a m (reads_in l m o) (in_result l m r).reply (in_result l m r).cursor
-  in_left Plain o r h = h
-  in_left Scaled o r h = by_scaled o r.reply r.cursor h
+  left_scaled : (k r p : ℕ) → entries_left (in_reading l Scaled rows) n k r p ≡ map (scaled_entry l) (entries_left rows n k r p)
+  left_scaled zero r p = refl
+  left_scaled (suc k) r p =
+      rw (drop-map (scaled_entry l) p (rows r), from_scaled (suc r) k, map-append (scaled_entry l) (drop p (rows r)) (entries_from rows n (suc r) k))
 
 module _ (l : BinTable) (a : List ℕ) (c : TableData) where
+  -- those from a cursor on
+  scaled_left : (d : TableData)
+      → entries_left (rows_in l a Scaled d) l.naxis2 (l.naxis2 - d.row) d.row d.passed ≡ map (scaled_entry l) (cursor_left l a d)
+  scaled_left d = left_scaled l (row_entries l a d.choice d.heap) l.naxis2 (l.naxis2 - d.row) d.row d.passed
+
+  -- a plain read's answer
   by_reply : (es : List Entry) (q : Reply) (d : TableData) → ReadLeft l a c es q d
       → CellsLeft l a Plain (cell_reads es) q d
-  unfolding cell_reads
+  unfolding cell_reads cells_from
   by_reply es (got_cell x) d h = rw (h.0, h.1.0)
   by_reply es (got_row k) d h = absurd h
   by_reply es sought d h = absurd h
   by_reply es at_end d h = rw h.0
   by_reply es (refused m p) d h = rw (h.1.1, h.0)
 
-  left_is : CellsLeft l a Plain (cells_from l a Plain c) (cursor_step l a c (read_cell plain)).reply (cursor_step l a c (read_cell plain)).cursor
-  unfolding cursor_step
-  left_is =
+  -- that of a scaled one
+  by_scaled : (es : List Entry) (q : Reply) (d : TableData) → ReadLeft l a c es q d
+      → CellsLeft l a Scaled (cell_reads (map (scaled_entry l) es)) (scaled_reply l q) d
+  unfolding cell_reads cells_from
+  by_scaled es (got_cell x) d h = rw (h.0, h.1.0, scaled_left d)
+  by_scaled es (got_row k) d h = absurd h
+  by_scaled es sought d h = absurd h
+  by_scaled es at_end d h = rw h.0
+  by_scaled es (refused m p) d h = rw (h.1.1, h.0)
+
+  in_left : (m : Reading) (q : StepResult) → belongs l a c ≡ true → ReadLeft l a c (cursor_left l a c) q.reply q.cursor
+      → CellsLeft l a m (cells_from l a m c) (in_result l m q).reply (in_result l m q).cursor
+  unfolding cells_from
+  in_left Plain q b h = rw b (by_reply (cursor_left l a c) q.reply q.cursor h)
+  in_left Scaled q b h = rw (b, scaled_left c) (by_scaled (cursor_left l a c) q.reply q.cursor h)
+
+  abbrev Left : How → Type 0
+  Left how = let o = cursor_step l a c (read_cell how) in CellsLeft l a how.reading (cells_from l a how.reading c) o.reply o.cursor
+
+  left_refused : (how : How) → belongs l a c ≡ false → Left how
+  unfolding cursor_step cells_from
+  left_refused how b = rw b
+
+  left_is : (how : How) → Left how
+  left_is how =
       either (belongs l a c)
       (λ b.
-      let r = cursor_step l a c (read_cell plain) in
-      let h = by_reply (cursor_left l a c) r.reply r.cursor (read_left l a c b) in
-      subst (λ (o : CellsRead). CellsLeft l a Plain o r.reply r.cursor) (sym (rw b)) h)
-      (λ b. rw b)
+      rw (step_in l a c (read_cell how)) (in_left how.reading (cursor_step l a c (read_cell plain)) b (read_left l a c b)))
+      (left_refused how)
 
 -- a turn of the loop: what the read returned, the sum so far, and what is returned in the end
 module _ (l : BinTable) (a : List ℕ) (c : TableData) (how : How) (r : Stepped (Option Cell))
@@ -86,9 +112,7 @@ module _ (l : BinTable) (a : List ℕ) (c : TableData) (how : How) (r : Stepped 
   from d = cells_from l a how.reading d
 
   left : CellsLeft l a how.reading (from c) (cell_reply r.answer) r.cursor
-  left =
-      subst (λ (o : StepResult). CellsLeft l a how.reading (from c) o.reply o.cursor) (sym (read ∙ step_in l a c (read_cell how)))
-      (in_left l a how.reading (cells_from l a Plain c) (cursor_step l a c (read_cell plain)) (left_is l a c))
+  left = subst (λ (o : StepResult). CellsLeft l a how.reading (from c) o.reply o.cursor) (sym read) (left_is l a c how)
 
   more : (x : Cell) → r.answer ≡ Ok (Some x) → from c ≡ and_then (x ∷ []) (from r.cursor)
   more x e = rw e at left

@@ -14,17 +14,17 @@ use Rattle.bintable.specs.Entry as B
 use Rattle.bintable.proofs.Kept.{entry_ok}
 use Rattle.walk.specs.declared.TableData.{TableData}
 use Rattle.walk.specs.declared.Reading.{Reading}
-use Rattle.walk.specs.declared.Reading.TheVariants.{Plain, Scaled}
 use Rattle.walk.specs.Plain.{row_entries}
 use Rattle.walk.specs.declared.Entry.{Entry}
-use Rattle.walk.specs.Walk.{start, entries_from}
-use Rattle.walk.specs.Step.{listed, fits, choice_ok, choice_of, belongs, cursor_at, cursor_left, open_with}
+use Rattle.walk.specs.Scaled.{in_reading}
+use Rattle.walk.specs.Walk.{start, entries_from, entries_left}
+use Rattle.walk.specs.Step.{listed, fits, choice_ok, choice_of, belongs, cursor_at, open_with}
 use Rattle.layout.proofs.Sizes.{limits}
 use Rattle.walk.proofs.Follows.{ok_start}
 use Rattle.walk.proofs.InOrder.{left_start}
 use Rattle.exports.specs.declared.Start.{Start}
 use Rattle.exports.specs.Checksum.{add_cells, with_number}
-use Rattle.exports.specs.Reads.{CellsRead, ended, cell_reads, reads_in, Way, by_cells, by_rows, opened_reads, entry_reads, table_reads, reads_sum}
+use Rattle.exports.specs.Reads.{CellsRead, ended, cell_reads, Way, by_cells, by_rows, opened_reads, entry_reads, table_reads, reads_sum}
 use Rattle.exports.specs.Loops.{cells_from, rows_from}
 
 -- ---- the layout
@@ -44,21 +44,16 @@ module _ (l : BinTable) (a : List ℕ) where
 -- a way to read, and what it comes to from a cursor on, which at the table's start is the same
 pub record Read (way : Way) (from : BinTable → List ℕ → Reading → TableData → CellsRead) : Type 0 where
   pub all : (l : BinTable) (a : List ℕ) (m : Reading) (choice : ℕ) (heap : Bool) → belongs l a (cursor_at choice heap start) ≡ true
-      → from l a m (cursor_at choice heap start) ≡ reads_in l m (way (row_entries l a choice heap) l.naxis2)
-
--- no reads are none in either reading
-ended_in : (l : BinTable) (m : Reading) (n : ℕ) → ended n ≡ reads_in l m (ended n)
-ended_in l Plain n = refl
-ended_in l Scaled n = refl
+      → from l a m (cursor_at choice heap start) ≡ way (in_reading l m (row_entries l a choice heap)) l.naxis2
 
 pub cell_reads_lem : Read by_cells cells_from
-cell_reads_lem = record { all = λ l a m choice heap b. rw b (ap (λ (es : List Entry). reads_in l m (cell_reads es)) (first l a choice heap)) }
+unfolding cells_from
+cell_reads_lem = record { all = λ l a m choice heap b. rw b (ap cell_reads (first (in_reading l m (row_entries l a choice heap)) l.naxis2)) }
   where
-    first : (l : BinTable) (a : List ℕ) (choice : ℕ) (heap : Bool)
-        → cursor_left l a (cursor_at choice heap start) ≡ entries_from (row_entries l a choice heap) l.naxis2 0 l.naxis2
-    first l a choice heap =
-        let e : l.naxis2 - 0 ≡ l.naxis2 = omega arith in
-        left_start (row_entries l a choice heap) l.naxis2 (l.naxis2 - 0) 0 ∙ rw e
+    first : (rows : ℕ → List Entry) (n : ℕ) → entries_left rows n (n - 0) 0 0 ≡ entries_from rows n 0 n
+    first rows n =
+        let e : n - 0 ≡ n = omega arith in
+        left_start rows n (n - 0) 0 ∙ rw e
 
 pub row_reads_lem : (m : ℕ) → Read (by_rows m) (rows_from m)
 row_reads_lem m = record { all = λ l a m choice heap b. let z : l.naxis2 - 0 ≡ l.naxis2 = omega arith in rw (b, z) }
@@ -71,15 +66,15 @@ module _ (way : Way) (from : BinTable → List ℕ → Reading → TableData →
   read_by (H.refused n p) l c = ended n
 
   opened : (l : BinTable) → let o = open_with l a (listed cols) heap in
-      read_by o.outcome l o.cursor ≡ reads_in l m (opened_reads way l a cols heap o.outcome)
+      read_by o.outcome l o.cursor ≡ opened_reads way l a cols heap m o.outcome
   unfolding open_with
   opened l =
       let choice = choice_of l (listed cols) in
       either (fits l a)
       (λ f.
       either (choice_ok l choice) (λ c. rw (f, c) (read.all l a m choice heap (start_belongs l a choice heap f c)))
-      (λ c. rw (f, c) (ended_in l m 11)))
-      (λ f. rw f (ended_in l m 10))
+      (λ c. rw (f, c)))
+      (λ f. rw f)
 
   entered : (o : H.Outcome) (k : BinTable)
       → let l = B.layout_in (B.entry_by o k) in let p = open_with l a (listed cols) heap in

@@ -6,21 +6,26 @@ use Rattle.refusal.specs.Refusal.{number_of}
 use Rattle.layout.specs.declared.BinTable.{BinTable}
 use Rattle.walk.specs.declared.TableData.{TableData}
 use Rattle.walk.specs.declared.Reading.{Reading}
+use Rattle.walk.specs.declared.Entry.{Entry}
 use Rattle.walk.specs.Plain.{row_entries}
-use Rattle.walk.specs.Walk.{Reply, got_cell, got_row, sought, at_end, refused}
-use Rattle.walk.specs.Step.{belongs, cursor_left}
+use Rattle.walk.specs.Scaled.{in_reading}
+use Rattle.walk.specs.Walk.{Reply, got_cell, got_row, sought, at_end, refused, entries_left}
+use Rattle.walk.specs.Step.{belongs}
 use Rattle.exports.specs.Checksum.{add_cells, with_number}
-use Rattle.exports.specs.Reads.{CellsRead, ended, cell_reads, row_reads, reads_in}
+use Rattle.exports.specs.Reads.{CellsRead, ended, cell_reads, row_reads}
 
 -- ---- reads from a cursor on, in a reading: a 10, if it does not belong
 
-abbrev pub cells_from : BinTable → List ℕ → Reading → TableData → CellsRead
-cells_from l a m c = reads_in l m (cond (belongs l a c) (cell_reads (cursor_left l a c)) (ended 10))
+-- the rows that a cursor reads
+abbrev pub rows_in : BinTable → List ℕ → Reading → TableData → ℕ → List Entry
+rows_in l a m c = in_reading l m (row_entries l a c.choice c.heap)
+
+unfoldable pub cells_from : BinTable → List ℕ → Reading → TableData → CellsRead
+cells_from l a m c =
+    cond (belongs l a c) (cell_reads (entries_left (rows_in l a m c) l.naxis2 (l.naxis2 - c.row) c.row c.passed)) (ended 10)
 
 abbrev pub rows_from : ℕ → BinTable → List ℕ → Reading → TableData → CellsRead
-rows_from n l a m c =
-    reads_in l m
-    (cond (belongs l a c) (row_reads n (row_entries l a c.choice c.heap) (l.naxis2 - c.row) c.row c.passed) (ended 10))
+rows_from n l a m c = cond (belongs l a c) (row_reads n (rows_in l a m c) (l.naxis2 - c.row) c.row c.passed) (ended 10)
 
 -- what a sum so far returns with them
 abbrev pub sum_then : ℕ → CellsRead → ℕ

@@ -1,6 +1,6 @@
 -- What reads of a table come to, one read after the other from the start: the cells that they hand out, and what ends them.
 -- Assumes nothing.
-use Rattle.std.specs.Prelude.{ℕ, zero, suc, Bool, true, false, cond, List, [], ◌∷◌, ◌++◌, map, length, drop, leb}
+use Rattle.std.specs.Prelude.{ℕ, zero, suc, Bool, true, false, cond, List, [], ◌∷◌, ◌++◌, length, drop, leb}
 use Rattle.refusal.specs.Refusal as H
 use Rattle.layout.specs.declared.BinTable.{BinTable}
 use Rattle.bintable.specs.Entry as B
@@ -8,9 +8,8 @@ use Rattle.cell.specs.declared.Cell.{Cell}
 use Rattle.walk.specs.declared.Entry.{Entry}
 use Rattle.walk.specs.declared.Entry.TheVariants as E
 use Rattle.walk.specs.declared.Reading.{Reading}
-use Rattle.walk.specs.declared.Reading.TheVariants.{Plain, Scaled}
 use Rattle.walk.specs.Plain.{row_entries}
-use Rattle.walk.specs.Scaled.{scaled_cell}
+use Rattle.walk.specs.Scaled.{in_reading}
 use Rattle.walk.specs.Walk.{Gathered, all_cells, outside, gather, entries_from}
 use Rattle.walk.specs.Step.{listed, choice_of, open_with}
 use Rattle.exports.specs.Checksum.{checksum, with_number}
@@ -61,18 +60,13 @@ by_cells rows n = cell_reads (entries_from rows n 0 n)
 abbrev pub by_rows : ℕ → Way
 by_rows m rows n = row_reads m rows n 0 0
 
--- what plain reads come to in a reading: the second one scales each cell's value
-abbrev pub reads_in : BinTable → Reading → CellsRead → CellsRead
-reads_in l Plain o = o
-reads_in l Scaled o = record { cells = map (scaled_cell l) o.cells; number = o.number }
-
--- reads of the chosen columns, by what opening and the entry come to: a refusal of one of them ends them before the first
-abbrev pub opened_reads : Way → BinTable → List ℕ → List ℕ → Bool → H.Outcome → CellsRead
-opened_reads way l a cols heap H.accepted = way (row_entries l a (choice_of l (listed cols)) heap) l.naxis2
-opened_reads way l a cols heap (H.refused n p) = ended n
+-- reads of the chosen columns in a reading, by what opening and the entry come to: a refusal of one of them ends them before the first
+abbrev pub opened_reads : Way → BinTable → List ℕ → List ℕ → Bool → Reading → H.Outcome → CellsRead
+opened_reads way l a cols heap m H.accepted = way (in_reading l m (row_entries l a (choice_of l (listed cols)) heap)) l.naxis2
+opened_reads way l a cols heap m (H.refused n p) = ended n
 
 abbrev pub entry_reads : Way → List ℕ → List ℕ → Bool → Reading → B.Entry → CellsRead
-entry_reads way a cols heap m (B.accepted l) = reads_in l m (opened_reads way l a cols heap (open_with l a (listed cols) heap).outcome)
+entry_reads way a cols heap m (B.accepted l) = opened_reads way l a cols heap m (open_with l a (listed cols) heap).outcome
 entry_reads way a cols heap m (B.refused n p) = ended n
 
 abbrev pub table_reads : Way → List ℕ → List ℕ → List ℕ → Bool → Reading → CellsRead
