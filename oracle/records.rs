@@ -11,9 +11,9 @@ const BESIDE: &[u8] = b"@[\\]^_`{|}~";
 /// Bit 5, which tells the two cases of a letter apart.
 const CASE: u8 = 0x20;
 /// Names that the reader uses, and the beginnings of those that the domain leaves out.
-const KEPT: [&str; 13] = [
+const KEPT: [&str; 16] = [
     "XTENSION", "BITPIX", "NAXIS", "PCOUNT", "GCOUNT", "TFIELDS", "THEAP", "TFORM", "TTYPE",
-    "CONTINUE", "HIERARCH", "END", "Z",
+    "TSCAL", "TZERO", "TNULL", "CONTINUE", "HIERARCH", "END", "Z",
 ];
 
 /// Whether a value may stand anywhere in its field, or must be where the standard has it.

@@ -3,7 +3,8 @@ print of it: no table is changed here for any of them.
 
     cases.py WORK
 
-It prints a case as its name and a line for each reader; cases.txt has what must come.
+It prints a case as its name and a line for each reader; cases.txt has what must come. Of missing values the cells
+alone are printed, scaled ones as in scaled.py: doubles by their bits behind an f.
 """
 import io
 import sys
@@ -11,12 +12,14 @@ import sys
 import numpy
 from astropy.io import fits
 
+import scaled
 from compare import BLOCK, PRIMARY, READERS, cells_of, read_by
 from generate import named_table
 from header_cases import keyword, record
-from layout_cases import changed, inserted, without
+from layout_cases import WIDTH, changed, inserted, without
 from listing import column_records, fixed, required, whole
 from names import found_by_port
+from table_cases import be
 
 
 def table(forms, main, heap='', names=None, rows=1, **others):
@@ -111,6 +114,62 @@ SOUGHT = [
 ]
 
 
+def with_nulls(form, numbers, *records):
+    """A row for each number, and records of the column: a name, its value, a name, its value."""
+    width = WIDTH[form[-1]]
+    made = required(width, len(numbers), 0, 1) + column_records([form], ['C0'])
+    made += [keyword(name, value) for name, value in zip(records[::2], records[1::2])]
+    return whole(made, be(width, *numbers))
+
+
+FIVES = ('1I', [5, 6, 0])
+MOST_ROWS = 3
+LARGE = 2 ** 63 - 1
+
+# missing values: a name and one table or two, which are read plainly or scaled
+MISSING = [
+    ('1J, TNULL1 2147483648', with_nulls('1J', [-2 ** 31, 2 ** 31 - 1, 0], 'TNULL1', '2147483648')),
+    ('1J, TNULL1 4294967295', with_nulls('1J', [-1, 0], 'TNULL1', '4294967295')),
+    ('1J, TNULL1 1234554321', with_nulls('1J', [1234554321, 0], 'TNULL1', '1234554321')),
+    ('1K, TNULL1 1234554321', with_nulls('1K', [1234554321, 0], 'TNULL1', '1234554321')),
+    ('1K, TNULL1 9223372036854775808',
+     with_nulls('1K', [LARGE, LARGE - 511, LARGE - 512, -2 ** 63], 'TNULL1', '9223372036854775808')),
+    ('1I, TNULL1 40000', with_nulls('1I', [40000 - 2 ** 16], 'TNULL1', '40000')),
+    ('1B, TNULL1 -1 and 256', with_nulls('1B', [255, 0], 'TNULL1', '-1'), with_nulls('1B', [0, 1], 'TNULL1', '256')),
+    ('1I, TNULL1 5 twice', with_nulls(*FIVES, 'TNULL1', '5', 'TNULL1', '5')),
+    ('1I, TNULL1 5 and 6', with_nulls(*FIVES, 'TNULL1', '5', 'TNULL1', '6')),
+    ("1I, TNULL1 '5'", with_nulls(*FIVES, 'TNULL1', "'5'")),
+    ('1I, TNULL1 5.', with_nulls(*FIVES, 'TNULL1', '5.')),
+    ('1I, TNULL1 5E0', with_nulls(*FIVES, 'TNULL1', '5E0')),
+    ('1I, TNULL1 5 x', with_nulls(*FIVES, 'TNULL1', '5 x')),
+    ('1I, TNULL1 + 5', with_nulls(*FIVES, 'TNULL1', '+ 5')),
+    ('1I, no value of TNULL1', with_nulls(*FIVES, 'TNULL1', '')),
+    ('1I, TNULL1 5 in 20 digits', with_nulls(*FIVES, 'TNULL1', '5'.zfill(20))),
+    ('1K, TNULL1 18446744073709551615', with_nulls('1K', [-1, LARGE], 'TNULL1', '18446744073709551615')),
+]
+MISSING_SCALED = [
+    ('1I, TNULL1 5, TSCAL1 2', with_nulls('1I', [5, 6], 'TNULL1', '5', 'TSCAL1', '2')),
+    ('1I, TNULL1 12, TSCAL1 2', with_nulls('1I', [5, 6, 12], 'TNULL1', '12', 'TSCAL1', '2')),
+    ('1I, TNULL1 5, TZERO1 32768', with_nulls('1I', [5, 6], 'TNULL1', '5', 'TZERO1', '32768')),
+    ('1E with 5, TNULL1 5', with_nulls('1E', [0x40A00000], 'TNULL1', '5')),
+]
+
+
+def port_lines(table, work, reading):
+    return cells_of(table, work) if reading == 'plain' else scaled.port_lines(table, work, MOST_ROWS)
+
+
+def print_missing(cases, work, reading):
+    for name, *tables in cases:
+        print('%s; %s' % (name, reading))
+        read = {'cells' if reading == 'plain' else 'replay': [port_lines(table, work, reading) for table in tables]}
+        for reader in scaled.READERS:
+            read[reader] = scaled.read_by(reader, [PRIMARY + content for content in tables], work, reading)
+        for reader, said in read.items():
+            lines = [line for one in said for line in one if line.startswith(('cell ', 'refused ', 'error '))]
+            print('  %s: %s' % (reader, shown(lines)))
+
+
 def shown(lines):
     """The lines in one, of many the first and the last; of an error of astropy its kind alone."""
     if len(lines) > MOST_LINES:
@@ -140,6 +199,8 @@ def main(work):
         for reader, said in read.items():
             print('  %s: %s' % (reader, shown(said[k])))
     print_sought(work)
+    print_missing(MISSING, work, 'plain')
+    print_missing(MISSING_SCALED, work, 'scaled')
 
 
 if __name__ == '__main__':

@@ -11,6 +11,7 @@ import collections
 import math
 import os
 import random
+import re
 import struct
 import subprocess
 import sys
@@ -92,7 +93,7 @@ def try_table(rng):
 
 
 def tables(seed, count):
-    rng, made = random.Random('scaled %d' % seed), []
+    rng, made = random.Random('scaled %s' % seed), []
     while len(made) < count:
         one = try_table(rng)
         if len(one) <= MOST:
@@ -112,48 +113,66 @@ def layout_in(table):
     return layout_of(header, len(area))
 
 
+def without_nulls(table):
+    """The layout of a table as if no column had a null."""
+    layout = layout_in(table)
+    return layout._replace(columns=[column._replace(null=None) for column in layout.columns])
+
+
 def is_whole(column):
     return column.scaling is not None and column.scaling == (1, SHIFTS.get(column.form[-1], (None,))[0])
 
 
-def port_cells(table, work):
-    """The cells that `replay` reads scaled, row by row, each with its value: a whole number or a double."""
-    layout = layout_in(table)
+def port_lines(table, work, rows):
+    """What `replay` prints of so many rows, read scaled one after the other."""
     with open(os.path.join(work, 'table.fits'), 'wb') as to:
         to.write(table)
     with open(os.path.join(work, 'steps.txt'), 'w', encoding='ascii') as to:
-        to.write('row %d scaled\n' % MOST_CELLS * layout.rows)
-    said = subprocess.run([REPLAY], cwd=work, capture_output=True, check=True).stdout.decode('ascii').splitlines()
+        to.write('row %d scaled\n' % MOST_CELLS * rows)
+    return subprocess.run([REPLAY], cwd=work, capture_output=True, check=True).stdout.decode('ascii').splitlines()
+
+
+def port_cells(table, work):
+    """The cells of numbers that `replay` reads, each with its value: a whole number, a double, or U."""
+    layout = layout_in(table)
+    columns, said, made = layout.columns, port_lines(table, work, layout.rows), {}
     assert not any(line.startswith(('refused', 'bad', 'end')) for line in said), said[:3]
-    made = {}
     for line in said:
         word, *words = line.split()
-        if word == 'cell':
-            place = tuple(int(of) for of in words[:3])
-            value = words[3]
-            made[place] = int(value) if is_whole(layout.columns[place[1]]) else double_of(value)
+        if word == 'cell' and columns[int(words[1])].form[-1] in NUMBERS:
+            place, value, whole_ones = tuple(int(of) for of in words[:3]), words[3], is_whole(columns[int(words[1])])
+            made[place] = value if value == 'U' else int(value) if whole_ones else double_of(value)
     return made
 
 
-def reader_cells(reader, given, work):
-    """The cells that a reader reads of each table: a list of values for each, one or two; or the line of an error."""
-    paths = [os.path.join(work, 'scaled%d.fits' % k) for k in range(len(given))]
-    for path, table in zip(paths, given):
+def read_value(of):
+    return of if of == 'U' else double_of(of[1:]) if of[0] == 'f' else int(of)
+
+
+def read_by(reader, files, work, *words):
+    """The lines that a reader prints of each file."""
+    paths = [os.path.join(work, 'scaled%d.fits' % k) for k in range(len(files))]
+    for path, content in zip(paths, files):
         with open(path, 'wb') as to:
-            to.write(compare.whole_file(table))
+            to.write(content)
     listed = ''.join(path + '\n' for path in paths).encode()
-    said = subprocess.run(READERS[reader], input=listed, stdout=subprocess.PIPE, check=True).stdout.decode('latin-1')
+    said = subprocess.run(READERS[reader] + list(words), input=listed, stdout=subprocess.PIPE, check=True).stdout
+    parts = re.split('^file .*\n', said.decode('latin-1'), flags=re.MULTILINE)[1:]
+    assert len(parts) == len(files)
+    return [part.splitlines() for part in parts]
+
+
+def reader_cells(reader, given, work, *words):
+    """The cells that a reader reads of each table: a list of values for each, one or two; or the line of an error."""
     made = []
-    for line in said.splitlines():
-        word, *words = line.split(' ')
-        if word == 'file':
-            made.append({})
-        elif word == 'cell':
-            place = tuple(int(of) for of in words[:3])
-            made[-1][place] = [double_of(of[1:]) if of[0] == 'f' else int(of) for of in words[3:]]
-        else:
-            made[-1]['error'] = line
-    assert len(made) == len(given)
+    for lines in read_by(reader, [compare.whole_file(table) for table in given], work, *words):
+        made.append({})
+        for line in lines:
+            word, *values = line.split(' ')
+            if word == 'cell':
+                made[-1][tuple(int(of) for of in values[:3])] = [read_value(of) for of in values[3:]]
+            else:
+                made[-1]['error'] = line
     return made
 
 
@@ -163,6 +182,8 @@ def reader_cells(reader, given, work):
 def same(ours, theirs):
     """Whether two values are the same number, a whole number as a double where the other is one; NaNs are alike, and
     zeros are if their signs are."""
+    if 'U' in (ours, theirs):
+        return ours == theirs
     if isinstance(ours, int) and isinstance(theirs, int):
         return ours == theirs
     ours, theirs = float(ours), float(theirs)
@@ -200,6 +221,10 @@ class Found:
     def __init__(self):
         self.cells, self.tables, self.first, self.met = 0, 0, None, collections.Counter()
 
+    def explain(self, reader, table, place, ours, theirs):
+        column = layout_in(table).columns[place[1]]
+        return explanation(reader, card_of(table, b'TZERO%d' % (place[1] + 1)), column.scaling, ours, theirs)
+
     def add(self, reader, table, ours, theirs):
         """Whether the table differs."""
         columns = layout_in(table).columns
@@ -211,13 +236,10 @@ class Found:
             self.cells += len(wanted)
             self.met['%s: cells of arrays left out' % reader] += len(ours) - len(wanted)
             for place, value in wanted.items():
-                for other in theirs[place]:
-                    if not same(value, other):
-                        c = place[1]
-                        card = card_of(table, b'TZERO%d' % (c + 1))
-                        why = explanation(reader, card, columns[c].scaling, value, other)
-                        self.met[why] += why is not None
-                        different = different or (None if why else (place, value, other))
+                others = [other for other in theirs[place] if not same(value, other)]
+                whys = {self.explain(reader, table, place, value, other) for other in others}
+                self.met.update(whys - {None})
+                different = different or ((place, value, others) if None in whys else None)
         self.tables += different is not None
         self.first = self.first or different
         return different is not None
@@ -272,8 +294,7 @@ RULES = {
 
 def cells_by(rule, table):
     """The cells of a table by such a rule; whole numbers are right."""
-    header, area = parted(table)
-    layout, made = layout_in(table), {}
+    area, layout, made = parted(table)[1], without_nulls(table), {}
     for row in range(layout.rows):
         for cell in row_entries(layout, area, range(len(layout.columns)), True, row):
             column = layout.columns[cell.column]

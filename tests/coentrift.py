@@ -185,6 +185,8 @@ TEXTS = {
     14: 'the page takes {place} bytes, 27 a line, and there is room for 155,344 lines',
     16: 'TSCAL{place} or TZERO{place} is not a number that this reader takes, is given twice, or stands at a column '
         'whose type has no scaling: those of B, I, J, K, E and D have one',
+    17: 'TNULL{place} is not an integer of at most 19 digits, is given twice, or stands at a column whose type has no '
+        'missing values: those of B, I, J and K have them',
 }
 EMPTY = 'the file is empty'
 WHOLE = ('; this looks like a whole FITS file, whose table is an extension: cut off what stands before it '
@@ -957,6 +959,34 @@ def scaling_cases():
     return made + refused('a factor of letters', weights_file(['3A'], 1, b'abc', more=[keyword('TSCAL1', '1')]), 16, 1)
 
 
+# TNULLn that are good, and such as are refused with the place of the 17
+NULLS = [
+    [('TNULL1', '-32768'), ('TNULL4', '0000000000000000007')], [('TNULL1', '40000')], [('TNULL5', 'x')] * 2,
+    [('TNULL01', '2.')], [('TNULL4', '-9223372036854775809')],
+]
+BAD_NULLS = [
+    ([('TNULL2', '0')], 2), ([('TNULL1', '1.')], 1), ([('TNULL4', "'1'")], 4), ([('TNULL1', '')], 1),
+    ([('TNULL1', '1'), ('TNULL1', '1')], 1), ([('TNULL4', '00000000000000000007')], 4), ([('TNULL3', '1E3')], 3),
+    ([('TSCAL2', '2'), ('TNULL2', '7')], 2), ([('TZERO4', '.'), ('TNULL1', '- 1')], 1),
+]
+
+
+def null_cases():
+    """The null of a column is no matter to the page of another one. A bad one is refused by each subcommand."""
+    made, forms, names = [], ['1I', '2E', '1E', '1PJ'], ['POS', 'WEIGHT', 'OTHER', 'LIST']
+    for pairs in NULLS:
+        more = [keyword(name, value) for name, value in pairs]
+        file = weights_file(forms, 3, seeded('null', 3 * 22), names, more=more)
+        made += [paged('%s' % pairs, file, [column, row, '1']) for column in ('1', 'Weight', '2') for row in '02']
+        made.append(paged('%s' % pairs, file, ['0', '0', '1'], refused_with(15, 0, NO_E)))
+    for pairs, n in BAD_NULLS:
+        more = [keyword(name, value) for name, value in pairs]
+        file = weights_file(forms, 3, seeded('null', 3 * 22), names, more=more)
+        made += refused('%s' % pairs, file, 17, n)
+        made.append(paged('%s' % pairs, file, ['1', '0', '1'], refused_with(17, n)))
+    return made + refused('a null of letters', weights_file(['3A'], 1, b'abc', more=[keyword('TNULL1', '97')]), 17, 1)
+
+
 # forms that are E, and how many items they have; and forms that are not
 E_FORMS = [
     ('E', 1), ('1E', 1), ('2E', 2), ('3E', 3), ('0E', 0), ('00E', 0), ('007E', 7), ('0' * 30 + '2E', 2), ('E(3)', 1),
@@ -1108,8 +1138,8 @@ def item_cases():
 
 
 def page_cases():
-    return (weight_cases() + shown_cases() + order_cases() + kind_cases() + scaling_cases() + by_name_cases()
-            + row_cases() + item_cases())
+    return (weight_cases() + shown_cases() + order_cases() + kind_cases() + scaling_cases() + null_cases()
+            + by_name_cases() + row_cases() + item_cases())
 
 
 def named():
@@ -1174,6 +1204,8 @@ def random_weights(rng):
                     theap=rng.choice([None, rows * width + rng.randrange(len(heap) + 1)]))
     if rng.randrange(3) == 0:
         records += layout_cases.random_scaling(rng, forms)
+    if rng.randrange(3) == 0:
+        records += layout_cases.random_nulls(rng, forms)
     return ended(records) + area + heap + after
 
 

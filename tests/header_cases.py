@@ -8,8 +8,8 @@ From the repository's root:
 
 The reader below is not a copy of the Rattle code: it was written from the request's statement of a
 header, which docs/FORMAT.md, sections 2 to 6, puts in our words. It looks for each name from the
-start and matches each value by one expression. The real numbers of TSCALn and TZEROn are read for the
-other tests alone: the program prints them as it does the values of any name.
+start and matches each value by one expression. The real numbers of TSCALn and TZEROn and the integers of
+TNULLn are read for the other tests alone: the program prints them as it does the values of any name.
 """
 import os
 import random
@@ -29,12 +29,14 @@ TFORM = [b'TFORM%d' % n for n in range(1, 1000)]
 TTYPE = [b'TTYPE%d' % n for n in range(1, 1000)]
 TSCAL = [b'TSCAL%d' % n for n in range(1, 1000)]
 TZERO = [b'TZERO%d' % n for n in range(1, 1000)]
+TNULL = [b'TNULL%d' % n for n in range(1, 1000)]
 # the names that must not stand twice
 USED = NINE + TFORM + TTYPE
-SLOTS = NINE + TFORM[:64] + TTYPE[:64] + TSCAL[:64] + TZERO[:64]
+SLOTS = NINE + TFORM[:64] + TTYPE[:64] + TSCAL[:64] + TZERO[:64] + TNULL[:64]
 
 # A value field, bytes 11 to 80: spaces, the value, then spaces only or a comment after any spaces.
 INTEGER = re.compile(rb' *([+-]?[0-9]{1,18}) *(/.*)?', re.DOTALL)
+NULL = re.compile(rb' *([+-]?[0-9]{1,19}) *(/.*)?', re.DOTALL)
 STRING = re.compile(rb" *'((?:[^']|'')*)' *(/.*)?", re.DOTALL)
 # sign, digits before the point, the point, those behind it, exponent
 REAL = re.compile(rb' *([+-]?)([0-9]*)(\.?)([0-9]*)(?:[ED]([+-]?[0-9]+))? *(?:/.*)?', re.DOTALL)
@@ -72,9 +74,14 @@ def name_of(card):
     return card[:8].rstrip(b' ')
 
 
+def field_at(header, k):
+    """The value field of record k, which holds a value."""
+    return header[k * RECORD + 10:(k + 1) * RECORD]
+
+
 def value_of(header, k):
     """How the value of record k is printed."""
-    field = header[k * RECORD + 10:(k + 1) * RECORD]
+    field = field_at(header, k)
     found = INTEGER.fullmatch(field)
     if found:
         return 'integer %d' % int(found.group(1))
@@ -82,6 +89,12 @@ def value_of(header, k):
     if found:
         return 'string %d %d' % (k * RECORD + 10 + found.start(1), len(found.group(1).rstrip(b' ')))
     return 'invalid'
+
+
+def null_of(field):
+    """The integer of TNULLn in a value field, or None."""
+    found = NULL.fullmatch(field)
+    return int(found.group(1)) if found else None
 
 
 def real_of(field):
@@ -100,11 +113,6 @@ def real_of(field):
         return None
     # 0 has no minus
     return float(b'%s%sE%d' % (sign, digits, power)) or 0.0
-
-
-def real_at(header, k):
-    """The real number of record k, which holds a value, or None."""
-    return real_of(header[k * RECORD + 10:(k + 1) * RECORD])
 
 
 def said_of(header):
@@ -266,6 +274,7 @@ def repeat_cases():
     last_form, last_name = keyword('TFORM999', "'1J'"), keyword('TTYPE999', "'A'")
     heap = keyword('THEAP', '1')
     factor, zero, other = keyword('TSCAL1', '0.5'), keyword('TZERO1', '32768'), keyword('TZERO64', "'x'")
+    null, last_null = keyword('TNULL1', '-99'), keyword('TNULL64', '9' * 19)
     plain = [keyword('NAXIS', '9', mark) for mark in NO_VALUE]
     repeats = [
         GOOD[:9] + [two] + GOOD[9:],
@@ -295,7 +304,7 @@ def repeat_cases():
         [two] + [blank] * 34 + [three],
         [blank] * 35 + [two, three],
         [keyword(other, value) for value in '12' for other in UNUSED],
-        # TSCALn and TZEROn may stand twice
+        # TSCALn, TZEROn and TNULLn may stand twice
         [factor, zero, factor],
         [zero, zero, zero, factor],
         [zero, two, zero, factor, three, factor],
@@ -303,6 +312,10 @@ def repeat_cases():
         [keyword('TSCAL1', '0.5', '=='), factor, factor],
         [other, keyword('TZERO64', ''), keyword('TZERO65', '1'), keyword('TZERO65', '1'), name, other],
         [keyword('TSCAL999', '1')] * 2 + [form, factor, form],
+        [null, zero, null],
+        [last_null, keyword('TNULL1', ''), null, keyword('TNULL64', '9' * 18), last_null, null],
+        [keyword('TNULL1', '8', '=='), null, keyword('TNULL1', '8', ' ='), null, two, two],
+        [keyword('TNULL65', '1')] * 2 + [keyword('TNULL999', '1')] * 2 + [name, null, name],
     ]
     return [ended(records) for records in repeats] + [
         padded([two, END, three, END]),
@@ -320,7 +333,9 @@ NAMES = [
     'TFORM1a', 'TTYPE/', 'TTYPE:', 'TTYPE1/', 'TTYPE1:', 'TTYPE 1', 'TTYPEA1', 'tform3', 'TFORm3', 'ttype3',
     'TTYPe3', 'Tform3', 'TFORN3', 'TTYPF3', 'TSCAL2', 'TSCAL64', 'TSCAL65', 'TZERO2', 'TZERO64', 'TZERO65', 'TSCAL02',
     'TSCAL0', 'TSCAL', 'TZERO', 'TZERO0', 'TZERO2/', 'TSCAL:', 'TSCALE2', 'TZER2', 'TZEROO2', 'tscal3', 'tzero3',
-    'TSCAl3', 'TZERo3', 'TSCAM3', 'TZERP3', 'TSCAK3', 'TZERN3', 'TSCAL2A', 'TZERO 2', 'TNULL3', 'TDISP3', 'TUCAL3',
+    'TSCAl3', 'TZERo3', 'TSCAM3', 'TZERP3', 'TSCAK3', 'TZERN3', 'TSCAL2A', 'TZERO 2', 'TDISP3', 'TUCAL3', 'TNULL3',
+    'TNULL1', 'TNULL64', 'TNULL65', 'TNULL999', 'TNULL02', 'TNULL0', 'TNULL', 'TNULL2/', 'TNULL:', 'TNUL2', 'TNULLL2',
+    'TNULl3', 'tnull3', 'TNULM3', 'TNULK3', 'TNVLL3', 'TNULL2A', 'TNULL 2',
     'TFOR3', 'TTYP3', 'TFORMS3', 'XTFORM3', ' TFORM3', 'TUNIT3', 'TFIELDS',
     'TFIELD', 'TFIELDS1', 'NAXIS', 'NAXIS 1', ' NAXIS', 'naxis', 'Naxis', 'NAXIs', 'NAXIS3', 'NAXIS0', 'NAXIS1',
     'NAXIS2', 'NAXIS01', 'NAXIS11', 'NAXIS12', 'NAXIS22', 'NAXI', 'NAXISA', 'NAXIT', 'N', '', 'THEAP', 'THEAPX',
@@ -441,7 +456,7 @@ def random_value(rng):
 
 def random_good(rng, blocks):
     """Records that pass: GOOD and some names more, once each, most of them with a slot, with other records between."""
-    names = TFORM[2:80] + TTYPE[2:80] + TSCAL[2:80] + TZERO[2:80] + [b'THEAP']
+    names = TFORM[2:80] + TTYPE[2:80] + TSCAL[2:80] + TZERO[2:80] + TNULL[2:80] + [b'THEAP']
     names = rng.sample(names, rng.randrange(4, blocks * 36 - 16))
     more = [keyword(name, random_value(rng)) for name in names]
     room = blocks * 36 - 1 - len(GOOD) - len(more)

@@ -27,13 +27,14 @@ from fractions import Fraction
 
 sys.dont_write_bytecode = True
 
-from header_cases import BLOCK, END, GOOD, LIMIT, NINE, SLOTS, TSCAL, TZERO, USED
-from header_cases import end_of, ended, keyword, name_of, padded, real_at, real_of, record, records_of, text, value_of
+from header_cases import BLOCK, END, GOOD, LIMIT, NINE, SLOTS, TNULL, TSCAL, TZERO, USED
+from header_cases import end_of, ended, field_at, keyword, name_of, null_of, padded, real_of, record, records_of, text
+from header_cases import value_of
 
 AREA = 65536
 
 # the cases by name stay below this, so that the repository stays small; the program reads any length
-MOST_NAMED = 750000
+MOST_NAMED = 950000
 
 # ---- what docs/FORMAT.md says of a table's header ----
 
@@ -41,6 +42,9 @@ TABLE_NAMES = ['XTENSION', 'BITPIX', 'NAXIS', 'NAXIS1', 'NAXIS2', 'PCOUNT', 'GCO
 
 # the value a name must have
 ONLY = {'XTENSION': b'BINTABLE', 'BITPIX': 8, 'NAXIS': 2, 'GCOUNT': 1}
+
+# what tells of a column's numbers; these names may stand twice in the index
+NUMBER_NAMES = TSCAL + TZERO + TNULL
 
 # the largest size that is a size at all (None for no limit), and the largest that is read
 SIZES = {
@@ -53,11 +57,13 @@ ELEMENTS = b'LXBIJKAEDCM'
 LARGEST_COUNT = 8388608
 MOST_DESCRIPTORS = 1
 
-# what may be scaled; of P and Q it is the element that counts
+# what may be scaled, and what may have missing values; of P and Q it is the element that counts
 NUMBERS = 'BIJKED'
+INTEGERS = 'BIJK'
 
-# the scaling is None where neither keyword stands in the header, else the factor and the zero
-Column = collections.namedtuple('Column', 'form count start size stretch scaling')
+# the scaling is None where neither keyword stands in the header, else the factor and the zero; the null is None where
+# TNULLn is missing, else its integer
+Column = collections.namedtuple('Column', 'form count start size stretch scaling null')
 Layout = collections.namedtuple('Layout', 'rows naxis1 pcount theap columns')
 EMPTY = Layout(0, 0, 0, 0, [])
 
@@ -128,11 +134,11 @@ def used_records(header):
     return {name.decode('ascii'): k for name, k in found.items()}
 
 
-def scaling_records(header):
-    """The records of each TSCALn and TZEROn, all that hold a value before END."""
-    scaling, found = set(TSCAL + TZERO), collections.defaultdict(list)
+def number_records(header):
+    """The records of each TSCALn, TZEROn and TNULLn, all that hold a value before END."""
+    sought, found = set(NUMBER_NAMES), collections.defaultdict(list)
     for k, card in enumerate(records_of(header)[:end_of(header)]):
-        if name_of(card) in scaling:
+        if name_of(card) in sought:
             found[name_of(card).decode('ascii')].append(k)
     return found
 
@@ -177,14 +183,26 @@ def scaling_of(header, given, n, letters):
         return None
     if letters[-1] not in NUMBERS or any(len(records) > 1 for records in named):
         raise Refused(16, n)
-    made = tuple(real_at(header, records[0]) if records else missing for records, missing in zip(named, (1.0, 0.0)))
+    made = tuple(real_of(field_at(header, records[0])) if records else missing
+                 for records, missing in zip(named, (1.0, 0.0)))
     if None in made:
         raise Refused(16, n)
     return made
 
 
+def null_by_17(header, given, n, letters):
+    """The null of column n by check 17; None if it has none."""
+    records = given.get('TNULL%d' % n, [])
+    if not records:
+        return None
+    null = null_of(field_at(header, records[0]))
+    if letters[-1] not in INTEGERS or len(records) > 1 or null is None:
+        raise Refused(17, n)
+    return null
+
+
 def column_of(header, where, given, n, start):
-    """Column n, counted from 1, by checks 4, 5, 8 and 16."""
+    """Column n, counted from 1, by checks 4, 5, 8, 16 and 17."""
     if 'TFORM%d' % n not in where:
         raise Refused(4, n)
     form = form_of(single(bytes_at(header, string_at(header, where['TFORM%d' % n]))))
@@ -192,14 +210,15 @@ def column_of(header, where, given, n, start):
         raise Refused(8, n)
     letters, count, size = form
     stretch = string_at(header, where['TTYPE%d' % n]) if 'TTYPE%d' % n in where else None
-    return Column(letters, count, start, size, stretch, scaling_of(header, given, n, letters))
+    scaling = scaling_of(header, given, n, letters)
+    return Column(letters, count, start, size, stretch, scaling, null_by_17(header, given, n, letters))
 
 
 def layout_of(header, area):
     """The layout, or a refusal raised."""
     where = used_records(header)
     values = table_values(header, where)
-    given = scaling_records(header)
+    given = number_records(header)
     columns, start = [], 0
     for n in range(1, values['TFIELDS'] + 1):
         columns.append(column_of(header, where, given, n, start))
@@ -253,10 +272,12 @@ def said_of(case):
     lent = [('full', case.header), ('cut', case.header[:case.cut])]
     lines = [outcome, 'table %d columns %d rows %d bytes %d pcount %d theap' % (
         len(layout.columns), layout.rows, layout.naxis1, layout.pcount, layout.theap)]
-    for i, (form, count, start, size, stretch, scaling) in enumerate(layout.columns):
+    for i, (form, count, start, size, stretch, scaling, null) in enumerate(layout.columns):
         noted = 'missing' if stretch is None else 'stretch %d %d' % stretch
         if scaling is not None:
             noted += ' factor %d zero %d' % tuple(double_bits(of) for of in scaling)
+        if null is not None:
+            noted += ' null %d' % null if -2 ** 63 <= null < 2 ** 63 else ' null out of range'
         lines.append('column %d %s %d at %d bytes %d %s' % (i, form, count, start, size, noted))
     for i in range(len(layout.columns) + 1):
         for word, header in lent:
@@ -815,7 +836,7 @@ NO_REALS = [
 EVERY_NUMBER = ['1B', '1I', '1J', '1K', '1E', '1D'] + [kind + letter for kind in 'PQ' for letter in NUMBERS] + ['0PK']
 
 
-def scaled_table(forms, *pairs, naxis1=None, theap=None):
+def table_with(forms, *pairs, naxis1=None, theap=None):
     """A table with these records behind the others: a name, its value, a name, its value."""
     if naxis1 is None:
         naxis1 = sum(form_of(text(form))[2] for form in forms)
@@ -827,9 +848,9 @@ def scaling_cases():
     many = [keyword('%s%d' % (root, n + 1), REALS[(2 * n + k) % len(REALS)]) for n in range(64)
             for k, root in enumerate(('TSCAL', 'TZERO'))]
     each_form = [(form, n) for n, form in enumerate(EVERY_NUMBER, 1)]
-    both = scaled_table(EVERY_NUMBER, *[of for _, n in each_form for of in ('TZERO%d' % n, '-%d.5' % n, 'TSCAL%d' % n,
+    both = table_with(EVERY_NUMBER, *[of for _, n in each_form for of in ('TZERO%d' % n, '-%d.5' % n, 'TSCAL%d' % n,
                                                                            '%dE-1' % n)])
-    some_of = scaled_table(EVERY_NUMBER, *[of for form, n in each_form if n % 3
+    some_of = table_with(EVERY_NUMBER, *[of for form, n in each_form if n % 3
                                            for of in (('TSCAL%d' if n % 3 == 1 else 'TZERO%d') % n, '0.%d' % n)])
     two = ['1I', '1J']
     made = [
@@ -837,42 +858,118 @@ def scaling_cases():
         case('each type with both', 'accepted', both, area=200),
         case('each type, one or none', 'accepted', some_of, area=200),
         case('a record of the name without a value, before and behind; n above TFIELDS; behind END', 'accepted', padded(
-            scaled_table(two, 'TZERO2', '8') + [keyword('TZERO2', '9', '=='), keyword('TSCAL1', '9', ' =')]
+            table_with(two, 'TZERO2', '8') + [keyword('TZERO2', '9', '=='), keyword('TSCAL1', '9', ' =')]
             + [keyword('TSCAL3', 'x'), keyword('TSCAL3', 'x'), keyword('TZERO999', '1'), keyword('TZERO999', '1')]
             + [keyword('TSCAL01', '1')] * 2 + [keyword('TZERO0', '1'), END, keyword('TZERO2', '9')])),
     ]
-    made += [case('16: %s with %s' % (form, root), 'refused 16 2', scaled_table(['1I', form], root + '2', '1'), area=99)
+    made += [case('16: %s with %s' % (form, root), 'refused 16 2', table_with(['1I', form], root + '2', '1'), area=99)
              for form, root in (('1L', 'TZERO'), ('1X', 'TSCAL'), ('1A', 'TZERO'), ('1C', 'TSCAL'), ('1M', 'TZERO'),
                                 ('PA', 'TSCAL'), ('0QX', 'TZERO'), ('QM', 'TSCAL'))]
     made += [
-        case('16: TSCAL2 twice, the same', 'refused 16 2', scaled_table(two, 'TSCAL2', '2', 'TSCAL2', '2')),
+        case('16: TSCAL2 twice, the same', 'refused 16 2', table_with(two, 'TSCAL2', '2', 'TSCAL2', '2')),
         case('16: TZERO1 twice, the second unreadable', 'refused 16 1',
-             scaled_table(two, 'TZERO1', '2', 'TZERO1', "'")),
+             table_with(two, 'TZERO1', '2', 'TZERO1', "'")),
         case('16: TSCAL1 good, TZERO1 twice', 'refused 16 1',
-             scaled_table(two, 'TZERO1', '1', 'TSCAL1', '2', 'TZERO1', '1')),
-        case('16: TZERO1 good, TSCAL1 bad', 'refused 16 1', scaled_table(two, 'TZERO1', '1', 'TSCAL1', '1e5')),
-        case('16: TSCAL1 good, TZERO1 bad', 'refused 16 1', scaled_table(two, 'TZERO1', '1E23', 'TSCAL1', '1E22')),
-        case('16: column 64 alone', 'refused 16 64', scaled_table(['1B'] * 64, 'TZERO64', '1234567890123456'), area=64),
+             table_with(two, 'TZERO1', '1', 'TSCAL1', '2', 'TZERO1', '1')),
+        case('16: TZERO1 good, TSCAL1 bad', 'refused 16 1', table_with(two, 'TZERO1', '1', 'TSCAL1', '1e5')),
+        case('16: TSCAL1 good, TZERO1 bad', 'refused 16 1', table_with(two, 'TZERO1', '1E23', 'TSCAL1', '1E22')),
+        case('16: column 64 alone', 'refused 16 64', table_with(['1B'] * 64, 'TZERO64', '1234567890123456'), area=64),
         case('16 of 1 before 16 of 2, by n and not by record', 'refused 16 1',
-             scaled_table(two, 'TSCAL2', '', 'TZERO1', '')),
-        case('3 before 16', 'refused 3 12', scaled_table(two, 'TZERO1', 'x', 'TZERO1', 'x', 'NAXIS', '2')),
-        case('6 of THEAP before 16', 'refused 6 8', scaled_table(two, 'TZERO1', 'x', theap=99)),
-        case('5 of TTYPE1 before 16', 'refused 5 10', scaled_table(two, 'TTYPE1', '1', 'TZERO1', 'x')),
-        case('8 of TFORM1 before 16', 'refused 8 1', scaled_table(['3Z', '1J'], 'TZERO1', 'x', naxis1=6)),
-        case('16 of 1 before 4 of TFORM2', 'refused 16 1', without('TFORM2', of=scaled_table(two, 'TSCAL1', 'x'))),
-        case('16 of 1 before 5 of TTYPE2', 'refused 16 1', scaled_table(two, 'TTYPE2', '1', 'TSCAL1', 'x')),
-        case('16 before 9', 'refused 16 2', scaled_table(two, 'TZERO2', '0E23', naxis1=7)),
-        case('16 before 10', 'refused 16 2', scaled_table(two, 'TZERO2', '.'), area=5),
-        case('9 with good numbers', 'refused 9 0', scaled_table(two, 'TZERO2', '1', naxis1=7)),
+             table_with(two, 'TSCAL2', '', 'TZERO1', '')),
+        case('3 before 16', 'refused 3 12', table_with(two, 'TZERO1', 'x', 'TZERO1', 'x', 'NAXIS', '2')),
+        case('6 of THEAP before 16', 'refused 6 8', table_with(two, 'TZERO1', 'x', theap=99)),
+        case('5 of TTYPE1 before 16', 'refused 5 10', table_with(two, 'TTYPE1', '1', 'TZERO1', 'x')),
+        case('8 of TFORM1 before 16', 'refused 8 1', table_with(['3Z', '1J'], 'TZERO1', 'x', naxis1=6)),
+        case('16 of 1 before 4 of TFORM2', 'refused 16 1', without('TFORM2', of=table_with(two, 'TSCAL1', 'x'))),
+        case('16 of 1 before 5 of TTYPE2', 'refused 16 1', table_with(two, 'TTYPE2', '1', 'TSCAL1', 'x')),
+        case('16 before 9', 'refused 16 2', table_with(two, 'TZERO2', '0E23', naxis1=7)),
+        case('16 before 10', 'refused 16 2', table_with(two, 'TZERO2', '.'), area=5),
+        case('9 with good numbers', 'refused 9 0', table_with(two, 'TZERO2', '1', naxis1=7)),
     ]
     return made
+
+
+# integers as TNULLn holds them
+NULLS = [
+    '0', '-0', '+0', '00', '5', '+5', '-5', '5/', '5 / c', '-5  /', '007', ' ' * 69 + '5', ' ' * 50 + '-' + '7' * 19,
+    '5' + ' ' * 68 + '/',
+    # 18 and 19 digits
+    '9' * 18, '-' + '9' * 18, '1' + '0' * 17, '9' * 19, '-' + '9' * 19, '+' + '9' * 19, '1' + '0' * 18,
+    '1234567890123456789', '-1234567890123456789', '42'.zfill(19), '-' + '42'.zfill(19), '0' * 19, '-' + '0' * 19,
+    # the lowest and the highest number of each type, and what is next to them
+    '255', '256', '-1', '128', '-128', '32767', '32768', '-32768', '-32769', '40000', '65535', '2147483647',
+    '2147483648', '-2147483648', '-2147483649', '4294967295', '9223372036854775807', '9223372036854775808',
+    '-9223372036854775808', '-9223372036854775809', '+9223372036854775807', '9223372036854775807/',
+]
+
+# other values
+NO_NULLS = [
+    '', '/', ' / 5', '1' + '0' * 19, '9' * 20, '-' + '9' * 20, '5'.zfill(20), '-' + '5'.zfill(20), '0' * 20,
+    '18446744073709551616', '18446744073709551611', '5' * 70, "'5'", "''", '1.5', '5.', '.5', '5.0', '1E3', '1D3',
+    '5E0', '1e3', '--5', '++5', '+-5', '- 5', '+ 5', '+', '-', '-/5', '5 x', '5x', '5 5', '5-', '1,000', '0x5', 'T',
+    '1_0', '(5,5)', '9' * 19 + '.', '9' * 19 + ' 9', ' ' * 50 + '7' * 20, b'\t5', b'5\0', b'5\t', b'\xb5', b'5 \xa0',
+]
+
+EVERY_ITEM = [kind + letter for kind in ('1', 'P', 'Q') for letter in 'LXBIJKAEDCM']
+
+
+def null_cases():
+    """TNULLn, and refusal 17."""
+    whole = [form for form in EVERY_ITEM if form[-1] in INTEGERS] + ['0PK', '0B', '0QI']
+    pairs = [pair for n in range(1, 16) for pair in ('TNULL%d' % n, '-%d' % n)]
+    spread = [keyword('TNULL%d' % n, NULLS[n % len(NULLS)]) for n in range(64, 0, -1)]
+    two = ['1I', '1J']
+    made = [
+        case('the integers of TNULLn, at 64 columns, from the last to the first', 'accepted',
+             table(['1' + INTEGERS[n // 4 % 4] for n in range(64)], 240) + spread, area=240),
+        case('each type that has missing values', 'accepted', table_with(whole, *pairs), area=128),
+        case('TNULLn beside the scaling; a record of the name without a value; n above TFIELDS; behind END',
+             'accepted', padded(
+                 table_with(two, 'TNULL2', '-0', 'TSCAL2', '1', 'TNULL1', '9' * 19, 'TZERO2', '8')
+                 + [keyword('TNULL1', '9', '=='), keyword('TNULL2', '9', ' ='), keyword('TNULL01', 'x')]
+                 + [keyword('TNULL3', 'x'), keyword('TNULL999', '1')] * 2
+                 + [keyword('TNULL0', '1'), END, keyword('TNULL2', '9')])),
+    ]
+    made += [case('17: %s' % form, 'refused 17 2', table_with(['1I', form], 'TNULL2', '0'), area=99)
+             for form in EVERY_ITEM if form[-1] not in INTEGERS]
+    made += [case('17: %r' % of, 'refused 17 2', table_with(two, 'TNULL2', of)) for of in (
+        '0' * 19 + '5', '9' * 20, "'5'", '1.5', '1E3', '', '5 x', '- 5')]
+    return made + null_order_cases(two)
+
+
+def null_order_cases(two):
+    """TNULLn given twice, and where 17 comes among the other refusals."""
+    return [
+        case('17, not 3: TNULL2 twice, the same', 'refused 17 2', table_with(two, 'TNULL2', '2', 'TNULL2', '2')),
+        case('17: TNULL1 twice, the second unreadable', 'refused 17 1', table_with(two, 'TNULL1', '2', 'TNULL1', "'")),
+        case('17: E with a good factor', 'refused 17 2', table_with(['1I', '1E'], 'TSCAL2', '2', 'TNULL2', '0')),
+        case('17: column 64 alone', 'refused 17 64', table_with(['1B'] * 64, 'TNULL64', '0' * 20), area=64),
+        case('17 of 1 before 17 of 2, by n and not by record', 'refused 17 1',
+             table_with(two, 'TNULL2', '', 'TNULL1', '')),
+        case('16 before 17 of the same n', 'refused 16 1', table_with(two, 'TNULL1', 'x', 'TSCAL1', 'x')),
+        case('16 before 17 of the same n, a letter that has neither', 'refused 16 1',
+             table_with(['1A', '1J'], 'TNULL1', '1', 'TZERO1', '1'), area=5),
+        case('17 of 1 before 16 of 2', 'refused 17 1', table_with(two, 'TZERO2', 'x', 'TNULL1', '1.')),
+        case('16 of 1 before 17 of 2', 'refused 16 1', table_with(two, 'TNULL2', 'x', 'TZERO1', '1E23')),
+        case('3 before 17', 'refused 3 12', table_with(two, 'TNULL1', 'x', 'TNULL1', 'x', 'NAXIS', '2')),
+        case('6 of THEAP before 17', 'refused 6 8', table_with(two, 'TNULL1', 'x', theap=99)),
+        case('5 of TTYPE1 before 17', 'refused 5 10', table_with(two, 'TTYPE1', '1', 'TNULL1', 'x')),
+        case('8 of TFORM1 before 17', 'refused 8 1', table_with(['3Z', '1J'], 'TNULL1', 'x', naxis1=6)),
+        case('17 of 1 before 4 of TFORM2', 'refused 17 1', without('TFORM2', of=table_with(two, 'TNULL1', 'x'))),
+        case('17 of 1 before 5 of TTYPE2', 'refused 17 1', table_with(two, 'TTYPE2', '1', 'TNULL1', 'x')),
+        case('17 of 1 before 8 of TFORM2', 'refused 17 1', table_with(['1I', '3Z'], 'TNULL1', 'x', naxis1=6)),
+        case('17 before 9', 'refused 17 2', table_with(two, 'TNULL2', '5.', naxis1=7)),
+        case('17 before 10', 'refused 17 2', table_with(two, 'TNULL2', '.'), area=5),
+        case('9 with a good TNULLn', 'refused 9 0', table_with(two, 'TNULL2', '1', naxis1=7)),
+        case('10 with a good TNULLn', 'refused 10 0', table_with(two, 'TNULL2', '1'), area=5),
+    ]
 
 
 def named():
     """All of them."""
     return (example_cases() + whole_cases() + missing_cases() + unread_cases() + wrong_cases() + heap_cases()
             + sum_cases() + order_cases() + form_cases() + empty_field_cases() + name_cases() + apart_cases()
-            + either_case_cases() + counted_form_cases() + scaling_cases())
+            + either_case_cases() + counted_form_cases() + scaling_cases() + null_cases())
 
 
 # ---- random cases ----
@@ -1006,6 +1103,35 @@ def random_scaling(rng, forms):
     return made
 
 
+def null_text(rng):
+    """A text of TNULLn by its grammar, some with too many digits: near an end of a type's range, or any number."""
+    near = rng.choice([0, 2 ** 7, 2 ** 8, 2 ** 15, 2 ** 16, 2 ** 31, 2 ** 32, 2 ** 63, 2 ** 64, 10 ** 18, 10 ** 19])
+    number = rng.choice([near + rng.randrange(-2, 3), rng.randrange(10 ** rng.choice([1, 3, 5, 10, 18, 19, 20]))])
+    digits = '%d' % abs(number)
+    zeros = '0' * max(0, rng.choice([0, 0, 0, 0, 1, 3, 18 - len(digits), 19 - len(digits), 20 - len(digits)]))
+    return rng.choice(['', '', '+', '-', '-']) + zeros + digits
+
+
+def null_value(rng):
+    """A good one, in its place in the record."""
+    made = None
+    while made is None or null_of(made) is None:
+        made = b' ' * rng.choice([0, 0, 1, 8]) + text(rng.choice([null_text(rng), rng.choice(NULLS)])) + after(rng)
+        if len(made) > 70:
+            made = None
+    return made
+
+
+def random_nulls(rng, forms):
+    """TNULLn at columns that may have it, and now and then one that is not looked at."""
+    made = [keyword('TNULL%d' % n, null_value(rng)) for n, form in enumerate(forms, 1)
+            if form_of(text(form))[0][-1] in INTEGERS and rng.randrange(2)]
+    if rng.randrange(12) == 0:
+        beyond = 'TNULL%d' % (len(forms) + rng.choice([1, 2, 50, 900]))
+        made += [keyword(beyond, rng.choice(UNREAD + ['5']))] * rng.choice([1, 1, 2])
+    return made
+
+
 def random_records(rng):
     """The records of a sound table without END, and the bytes that its area must have."""
     forms = [random_form(rng) for _ in range(rng.choice([0, 1, 2, 2, 3, 3] + list(range(1, 13))))]
@@ -1034,6 +1160,8 @@ def random_records(rng):
             columns.append(keyword(beyond, rng.choice(UNREAD + ['7', "'1I'", "'A'"])))
     if rng.randrange(3) == 0:
         columns += random_scaling(rng, forms)
+    if rng.randrange(3) == 0:
+        columns += random_nulls(rng, forms)
     order = rng.randrange(4)
     if order == 1:
         rng.shuffle(columns)
@@ -1047,7 +1175,7 @@ def random_records(rng):
 
 
 def used_places(records):
-    return [k for k, card in enumerate(records) if name_of(card) in USED + TSCAL + TZERO]
+    return [k for k, card in enumerate(records) if name_of(card) in USED + NUMBER_NAMES]
 
 
 def put(records, name, value):
@@ -1156,11 +1284,11 @@ def fault_swap(rng, records):
         records[one], records[other] = first[:10] + second[10:], second[:10] + first[10:]
 
 
-def fault_scaling(rng, records):
-    """TSCALn or TZEROn of any column, most of them bad or a second one; or another value at one that is there."""
-    name = '%s%d' % (rng.choice(['TSCAL', 'TZERO']), 1 + rng.randrange(min(max(1, number_at(records, 'TFIELDS')), 64)))
-    value = rng.choice([nearly_real(rng, real_text(rng)), rng.choice(NO_REALS), real_text(rng), real_value(rng)])[:70]
-    places = [k for k, card in enumerate(records) if name_of(card) in TSCAL + TZERO]
+def fault_number(rng, records, names, value):
+    """A record of one of these names at any column, often a second one; or another value at one that is there."""
+    root = rng.choice(names).rstrip(b'0123456789')
+    name = root + b'%d' % (1 + rng.randrange(min(max(1, number_at(records, 'TFIELDS')), 64)))
+    places = [k for k, card in enumerate(records) if name_of(card) in names]
     if places and rng.randrange(2):
         k = rng.choice(places)
         records[k] = keyword(name_of(records[k]), value)
@@ -1168,6 +1296,18 @@ def fault_scaling(rng, records):
         records.insert(rng.randrange(len(records) + 1), rng.choice([records[rng.choice(places)], keyword(name, value)]))
     else:
         records.insert(rng.randrange(len(records) + 1), keyword(name, value))
+
+
+def fault_scaling(rng, records):
+    """TSCALn or TZEROn, most of them bad."""
+    value = rng.choice([nearly_real(rng, real_text(rng)), rng.choice(NO_REALS), real_text(rng), real_value(rng)])[:70]
+    fault_number(rng, records, TSCAL + TZERO, value)
+
+
+def fault_null(rng, records):
+    """TNULLn, most of them bad."""
+    value = rng.choice([nearly_real(rng, null_text(rng)), rng.choice(NO_NULLS), null_text(rng), null_value(rng)])[:70]
+    fault_number(rng, records, TNULL, value)
 
 
 def fault_end(rng, records):
@@ -1180,6 +1320,7 @@ FAULTS = [
     fault_missing, fault_missing, fault_unread, fault_unread, fault_size, fault_limit, fault_limit, fault_only,
     fault_near, fault_near, fault_heap, fault_form, fault_form, fault_form, fault_twice, fault_byte, fault_byte,
     fault_swap, fault_end, fault_scaling, fault_scaling, fault_scaling,
+    fault_null, fault_null, fault_null,
 ]
 
 
@@ -1258,7 +1399,7 @@ def tell(cases, size):
     """The counts, to standard error."""
     outcomes = [read(one.header, one.area)[0].split() for one in cases]
     counts = collections.Counter('accepted' if words[0] == 'accepted' else int(words[1]) for words in outcomes)
-    numbers = [*range(1, 11), 16]
+    numbers = [*range(1, 11), 16, 17]
     told = ['accepted %d' % counts['accepted']] + ['%d: %d' % (number, counts[number]) for number in numbers]
     print('%d cases, %d bytes; %s' % (len(cases), size, ', '.join(told)), file=sys.stderr)
 
@@ -1820,6 +1961,15 @@ name 0 to 2 empty
 find 0 to 2 none
 '''
 
+WORKED['TNULLn beside the scaling; a record of the name without a value; n above TFIELDS; behind END'] = '''
+accepted
+table 2 columns 1 rows 6 bytes 0 pcount 6 theap
+column 0 I 1 at 0 bytes 2 missing null out of range
+column 1 J 1 at 2 bytes 4 missing factor 4607182418800017408 zero 4620693217682128896 null 0
+name 0 to 2 empty
+find 0 to 2 none
+'''
+
 # the columns of some more cases, whose names are long or many
 WORKED_COLUMNS = {
     'names up to the end of the record': {
@@ -1912,9 +2062,18 @@ def check_reals():
         assert real_of(text(written)) is None, written
 
 
+def check_nulls():
+    """The integers above are read as Python's `int` reads them, and the others are not read."""
+    for written in NULLS:
+        assert null_of(text(written)) == int(written.partition('/')[0]), written
+    for written in NO_NULLS:
+        assert null_of(text(written)) is None, written
+
+
 def self_check():
     """Every case by name comes out as its line says, and the ones above are printed as worked out."""
     check_reals()
+    check_nulls()
     cases = {one.why: one for one in named()}
     assert len(cases) == len(named())
     for why, one in cases.items():

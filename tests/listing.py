@@ -37,7 +37,7 @@ from header_cases import BLOCK, END, GOOD, RECORD
 from header_cases import end_of, ended, header_length, keyword, padded, record, records_of, text
 from layout_cases import Refused, changed, inserted, layout_of, noted_name, quoted, table, without
 from table_cases import DOUBLES, FLOATS, READ, ROW, SEEK, SHIFTED, STORED, WHOLE_FORMS, WHOLE_ROW, ZEROS, Bad, Walk, be
-from table_cases import case as table_case, choice_of, item_width, p, q, random_case, row_entries, scaled
+from table_cases import case as table_case, choice_of, item_width, nulls_of, p, q, random_case, row_entries, scaled
 
 MOST = 65536
 LARGEST = 2 ** 64 - 1
@@ -54,6 +54,8 @@ def parted(file):
 
 
 def value_text(kind, value):
+    if kind == 'U' and not value:
+        return 'U'
     if kind == 'L':
         return ['F', 'T', 'U', '?'][value[0]] + ''.join('%d' % byte for byte in value[1:])
     if kind in 'EC':
@@ -493,10 +495,10 @@ def both(why, table, steps, said):
     return case(why, table, steps, said, said)
 
 
-def small(forms, rows, heap=b'', names=(), gap=None, scales=()):
+def small(forms, rows, heap=b'', names=(), gap=None, keywords=()):
     """A file of a table: rows of bytes (or a number of rows of no bytes), what follows them, names, and the values of
-    TSCALn and TZEROn by their names."""
-    made = table_case('', None, forms, rows, [], heap=heap, gap=gap, scales=scales)
+    TSCALn, TZEROn and TNULLn by their names."""
+    made = table_case('', None, forms, rows, [], heap=heap, gap=gap, keywords=keywords)
     records = [keyword('TTYPE%d' % n, quoted(name)) for n, name in enumerate(names, 1) if name is not None]
     cards = records_of(made.header)[:end_of(made.header)]
     return ended(cards + records) + made.area
@@ -758,7 +760,7 @@ def three_each(texts):
     return [' '.join(words[at:at + 3]) for at in range(0, 12, 3)]
 
 
-def one_row(why, settings, columns, **scales):
+def one_row(why, settings, columns, **keywords):
     """A table of one row. Each column is its form, the bytes of the field and the texts of its scaled values. They are
     read by a row read and then by cell reads."""
     forms, fields, texts = zip(*columns)
@@ -769,7 +771,7 @@ def one_row(why, settings, columns, **scales):
         place = '0 %d' % passed if passed < count else '1 0'
         said += '%sat %s %d\n' % (line, place, count + passed)
     steps = settings + b'row %d scaled\nseek 0\n' % count + b'cell scaled\n' * (count + 1)
-    return case('scaled: ' + why, small(forms, [b''.join(fields)], scales=scales), steps, None,
+    return case('scaled: ' + why, small(forms, [b''.join(fields)], keywords=keywords), steps, None,
                 said + 'end\nat 1 0 %d\n' % (2 * count))
 
 
@@ -825,14 +827,14 @@ def scaled_value_cases():
 def scaled_step_cases():
     """Scaled reads among other steps."""
     stored = [cells_told(0, c, of) for c, of in enumerate(three_each(STORED))]
-    whole_file = small(WHOLE_FORMS, [WHOLE_ROW], scales=ZEROS)
+    whole_file = small(WHOLE_FORMS, [WHOLE_ROW], keywords=ZEROS)
     # 10 is 4024000000000000, 7.5 401e000000000000, -0.5 bfe0000000000000, 9.5 4023000000000000
     ten, less, seven, half, nine = ('4024000000000000', 'c024000000000000', '401e000000000000', 'bfe0000000000000',
                                     '4023000000000000')
     mixed = small(['1PI', '1B', '1QE', '2A', '4L', '1C', '9X'],
                   [p(2, 0) + b'\x07' + q(1, 4) + b'abTF\0x' + be(4, 0x3F800000, 0x80000000) + b'\xa5\x80',
                    p(1, 2) + b'\x09' + q(2, 4) + b'cdTTTT' + bytes(10)], heap=be(2, 5, -5) + be(4, 0x3FC00000),
-                  scales={'TSCAL1': '2', 'TZERO2': '0.5', 'TSCAL3': '-1', 'TZERO3': '1'})
+                  keywords={'TSCAL1': '2', 'TZERO2': '0.5', 'TSCAL3': '-1', 'TZERO3': '1'})
     others = ('cell 0 3 0 97\ncell 0 3 1 98\ncell 0 4 0 T\ncell 0 4 1 F\ncell 0 4 2 U\ncell 0 4 3 ?120\n'
               'cell 0 5 0 3f800000 80000000\ncell 0 6 0 165\ncell 0 6 1 128\n')
     followed = ('cell 0 0 0 %s\ncell 0 0 1 %s\ncell 0 1 0 %s\ncell 0 2 0 %s\n' % (ten, less, seven, half)) + others
@@ -876,11 +878,11 @@ def scaling_cases():
     made = []
     for column, form in ((1, 'L'), (2, 'X'), (3, 'A'), (4, 'C'), (5, 'M'), (6, 'PA'), (7, '0QC')):
         made.append(both('16: %s with TZERO%d' % (form, column), small(
-            ['1B'] * (column - 1) + [form] + ['1I'], [], scales={'TZERO%d' % column: '1'}), b'cell scaled\n',
+            ['1B'] * (column - 1) + [form] + ['1I'], [], keywords={'TZERO%d' % column: '1'}), b'cell scaled\n',
             'refused 16 %d\n' % column))
     for written in ('1e5', '', '.', "'1'", '1E23', '0E23', '1234567890123456', '9223372036854775808.', '1 1', '1E',
                     'T'):
-        made.append(both('16: TSCAL2 of %r' % written, small(['1I', '1J'], [], scales={'TSCAL2': written}),
+        made.append(both('16: TSCAL2 of %r' % written, small(['1I', '1J'], [], keywords={'TSCAL2': written}),
                          b'bad\n', 'refused 16 2\n'))
     two = records_of(ended(table(['1I', '1J'], 6)))[:10]
     again = [keyword('TZERO2', '32768')] * 2
@@ -894,6 +896,75 @@ def scaling_cases():
             two + [keyword('TSCAL3', 'x'), keyword('TZERO9', '')] * 2) + be(2, 1) + be(4, 2), b'cell scaled\n',
             'table 2 columns 1 rows 6 bytes\ncolumn 0 I 1 at 0 -\ncolumn 1 J 1 at 2 -\ncell 0 0 0 1\ncell 0 1 0 2\n'
             'end 2\n', 'cell 0 0 0 %s\nat 0 1 1\n' % ONE),
+    ]
+
+
+def missing_cases():
+    """Missing values: what a column's null makes of its cells, in both readings and in `cells`."""
+    columns = 'table 4 columns 1 rows 45 bytes\ncolumn 0 B 3 at 0 -\ncolumn 1 I 3 at 3 -\ncolumn 2 J 3 at 9 -\n' \
+              'column 3 K 3 at 21 -\n'
+
+    def whole(why, nulls, plain, scaled):
+        said = [''.join(cells_told(0, c, of) for c, of in enumerate(three_each(values))) for values in (plain, scaled)]
+        return case('missing: ' + why, small(WHOLE_FORMS, [WHOLE_ROW], keywords={**ZEROS, **nulls_of(*nulls)}),
+                    b'row 12\nseek 0\nrow 12 scaled\n', columns + said[0] + 'end 12\n',
+                    'row 12\n' + said[0] + 'at 1 0 12\nseek 0\nat 0 0 12\nrow 12\n' + said[1] + 'at 1 0 24\n')
+
+    mixed = small(['1PI', '1B', '1QE', '2B', '1L'],
+                  [p(3, 0) + b'\7' + q(1, 6) + b'\7\x08\0', p(2, 2) + b'\x08' + q(2, 6) + b'\x08\x09x'],
+                  heap=be(2, 7, 8, -7) + be(4, 0x3FC00000), keywords={'TNULL1': '-7', 'TNULL2': '7', 'TNULL4': '+08'})
+    first = ('cell 0 0 0 7\ncell 0 0 1 8\ncell 0 0 2 U\ncell 0 1 0 U\ncell 0 2 0 3fc00000\ncell 0 3 0 7\n'
+             'cell 0 3 1 U\ncell 0 4 0 U\n')
+    return [
+        whole('the lowest numbers', ('0', '-32768', '-2147483648', '-9223372036854775808'),
+              'U 128 255 U 0 32767 U -1 2147483647 U -1 9223372036854775807',
+              'U 0 127 U 32768 65535 U 2147483647 4294967295 U 9223372036854775807 18446744073709551615'),
+        whole('the highest numbers', ('255', '32767', '2147483647', '9223372036854775807'),
+              '0 128 U -32768 0 U -2147483648 -1 U -9223372036854775808 -1 U',
+              '-128 0 U 0 32768 U 0 2147483647 U 0 9223372036854775807 U'),
+        whole('numbers that are none of the column', ('256', '40000', '2147483648', '9223372036854775808'), STORED,
+              SHIFTED),
+        whole('numbers of 19 digits, a sign, minus zero', ('0000000000000000128', '-0', '-0000000000000000001',
+                                                          '-9999999999999999999'),
+              '0 U 255 -32768 U 32767 -2147483648 U 2147483647 -9223372036854775808 -1 9223372036854775807',
+              '-128 U 127 0 U 65535 0 U 4294967295 0 9223372036854775807 18446744073709551615'),
+        case('missing: arrays, L beside, 13 and 14', mixed, b'row 7\nrow 8\ncell\ncell scaled\ncell\ncell\n',
+             'table 5 columns 2 rows 28 bytes\ncolumn 0 P 1 at 0 -\ncolumn 1 B 1 at 8 -\ncolumn 2 Q 1 at 9 -\n'
+             'column 3 B 2 at 25 -\ncolumn 4 L 1 at 27 -\n' + first + 'cell 1 0 0 8\ncell 1 0 1 U\ncell 1 1 0 8\n'
+             'refused 13 2\n',
+             'refused 14 8\nat 0 0 0\nrow 8\n' + first + 'at 1 0 8\ncell 1 0 0 8\nat 1 1 9\ncell 1 0 1 U\nat 1 2 10\n'
+             'cell 1 1 0 8\nat 1 3 11\nrefused 13 2\nat 1 3 11\n'),
+        case('missing: the heap off, a choice', mixed, b'heap off\nchoose 0 3\nrow 3\nrow 3 scaled\n', None,
+             'row 3\ncell 0 0 0 3 0\ncell 0 3 0 7\ncell 0 3 1 U\nat 1 0 3\n'
+             'row 3\ncell 1 0 0 2 2\ncell 1 3 0 U\ncell 1 3 1 4022000000000000\nat 2 0 6\n'),
+    ]
+
+
+def null_cases():
+    """Refusal 17."""
+    made = []
+    for column, form in ((1, 'L'), (2, 'X'), (3, 'A'), (4, 'E'), (5, 'D'), (6, 'C'), (7, 'M'), (8, 'PE'), (9, '0QA')):
+        made.append(both('17: %s with TNULL%d' % (form, column), small(
+            ['1B'] * (column - 1) + [form] + ['1I'], [], keywords={'TNULL%d' % column: '1'}), b'cell\n',
+            'refused 17 %d\n' % column))
+    for written in ('1.', '', "'1'", '1E3', '00000000000000000001', '99999999999999999999', '-00000000000000000001',
+                    '1 1', '- 1', '+-1', '1x'):
+        made.append(both('17: TNULL2 of %r' % written, small(['1I', '1J'], [], keywords={'TNULL2': written}),
+                         b'bad\n', 'refused 17 2\n'))
+    two = records_of(ended(table(['1I', '1J'], 6)))[:10]
+    again = [keyword('TNULL2', '-99')] * 2
+    return made + [
+        both('17: TNULL2 twice', ended(two + again) + bytes(6), b'', 'refused 17 2\n'),
+        both('16 before 17 of the same n', ended(two + again + [keyword('TZERO2', '.')]) + bytes(6), b'',
+             'refused 16 2\n'),
+        both('17 before 16 of the next n', ended(two + [keyword('TZERO2', '.'), keyword('TNULL1', '.')]) + bytes(6),
+             b'', 'refused 17 1\n'),
+        both('17 before 9 and 10', ended(changed('NAXIS1', '7', of=two) + again), b'', 'refused 17 2\n'),
+        case('TNULL3 and TNULL9 twice in a table of two columns', ended(
+            two + [keyword('TNULL3', 'x'), keyword('TNULL9', '')] * 2 + [keyword('TNULL2', '2')]) + be(2, 1) + be(4, 2),
+            b'cell\ncell scaled\n',
+            'table 2 columns 1 rows 6 bytes\ncolumn 0 I 1 at 0 -\ncolumn 1 J 1 at 2 -\ncell 0 0 0 1\ncell 0 1 0 U\n'
+            'end 2\n', 'cell 0 0 0 1\nat 0 1 1\ncell 0 1 0 U\nat 1 0 2\n'),
     ]
 
 
@@ -1034,7 +1105,8 @@ def step_cases():
 
 def named():
     return (file_cases() + refusal_cases() + table_cases() + empty_field_cases() + above_one_cases() + line_cases()
-            + step_cases() + scaled_value_cases() + scaled_step_cases() + scaling_cases())
+            + step_cases() + scaled_value_cases() + scaled_step_cases() + scaling_cases() + missing_cases()
+            + null_cases())
 
 
 # ---- random cases ----
@@ -1082,7 +1154,7 @@ def spoiled(rng, cards):
             place = rng.randrange(24)
             cards[at] = cards[at][:place] + bytes([rng.randrange(256)]) + cards[at][place + 1:]
         elif kind == 4:
-            name = '%s%d' % (rng.choice(['TSCAL', 'TZERO']), rng.choice([1, 1, 2, 3, 9]))
+            name = '%s%d' % (rng.choice(['TSCAL', 'TZERO', 'TNULL']), rng.choice([1, 1, 2, 3, 9]))
             cards.insert(rng.randrange(len(cards) + 1), keyword(name, rng.choice(VALUES)))
         else:
             cards[at] = cards[at][:10] + text('%d' % rng.randrange(-2, 40)).ljust(70)

@@ -28,7 +28,7 @@ import sys
 sys.dont_write_bytecode = True
 
 from header_cases import BLOCK, LIMIT, RECORD, ended, keyword, text
-from layout_cases import DESCRIPTOR, NUMBERS, WIDTH, Refused, double_bits, form_of, layout_of, table
+from layout_cases import DESCRIPTOR, INTEGERS, NUMBERS, WIDTH, Refused, double_bits, form_of, layout_of, table
 
 MOST_HEADER = 3 * BLOCK
 MOST_INDEXES = 128
@@ -37,7 +37,7 @@ LARGEST_COUNT = 4294967295
 MOST_CELLS = 512
 
 # the cases by name stay below this, so that the repository stays small; the program reads any length
-MOST_NAMED = 147456
+MOST_NAMED = 163840
 
 # ---- the plain list ----
 
@@ -80,14 +80,20 @@ def run_of(area, letter, start, items):
     return [value_of(letter, area[start + i * width:start + (i + 1) * width]) for i in range(items)]
 
 
+def cells_of(layout, row, c, letter, values):
+    """The cells of a field or an array. One whose stored number is the column's null is unset: U, with no number."""
+    null = layout.columns[c].null
+    unset = [letter in INTEGERS and value == [null] for value in values]
+    return [Cell(row, c, i, 'U', []) if unset[i] else Cell(row, c, i, letter, value) for i, value in enumerate(values)]
+
+
 def field_entries(layout, area, heap, row, c):
     """The entries of one field."""
     column = layout.columns[c]
     letter = column.form[0]
     start = row * layout.naxis1 + column.start
     if letter not in DESCRIPTOR:
-        values = run_of(area, letter, start, item_count(letter, column.count))
-        return [Cell(row, c, i, letter, value) for i, value in enumerate(values)]
+        return cells_of(layout, row, c, letter, run_of(area, letter, start, item_count(letter, column.count)))
     if column.count == 0:
         # no descriptor: an empty field, whether the heap is on or off
         return []
@@ -102,7 +108,7 @@ def field_entries(layout, area, heap, row, c):
     first = layout.theap + offset
     if first + items * item_width(element) > layout.naxis1 * layout.rows + layout.pcount:
         return [Bad(c)]
-    return [Cell(row, c, i, element, value) for i, value in enumerate(run_of(area, element, first, items))]
+    return cells_of(layout, row, c, element, run_of(area, element, first, items))
 
 
 def row_entries(layout, area, choice, heap, row):
@@ -139,7 +145,8 @@ def scaled_value(letter, value, scaling):
 
 
 def scaled(layout, cell):
-    """The cell as the scaled reading has it. Its letter is that of the item, and P or Q where no array is followed."""
+    """The cell as the scaled reading has it. Its letter is that of the item, P or Q where no array is followed, and U
+    where it is unset."""
     if cell.kind not in NUMBERS:
         return cell
     kind, value = scaled_value(cell.kind, *cell.value, layout.columns[cell.column].scaling)
@@ -374,42 +381,48 @@ def flat(of):
     return of if isinstance(of, bytes) else b''.join(of)
 
 
-def header_of(forms, rows, pcount, gap, written=None, scales=()):
-    """NAXIS1 is that of `forms`; `written`, if given, stands in the header in their place. `scales` are names of TSCALn
-    and TZEROn, each with its value."""
+def header_of(forms, rows, pcount, gap, written=None, keywords=()):
+    """NAXIS1 is that of `forms`; `written`, if given, stands in the header in their place. `keywords` are names of
+    TSCALn, TZEROn and TNULLn, each with its value."""
     naxis1 = sum(field_bytes(form) for form in forms)
     theap = None if gap is None else naxis1 * rows + gap
     records = table(written or forms, naxis1, rows=rows, pcount=pcount, theap=theap)
-    return ended(records + [keyword(name, value) for name, value in scales])
+    return ended(records + [keyword(name, value) for name, value in keywords])
 
 
 def case(why, said, forms, rows, steps, heap=b'', gap=None, extra=b'', indexes=None, follow=True, other=b'',
-         opening=WHOLE, short=0, written=None, scales=()):
+         opening=WHOLE, short=0, written=None, keywords=()):
     """What it is for; its answers by hand (None where that is long); the forms, the rows (a number of rows of no bytes,
     or the bytes of each), the steps; what follows the rows up to PCOUNT, and THEAP's distance from the main size (None
     for no THEAP); bytes after it, the choice (None for all), whether the heap is on, the second area, what the opening
     is lent, by how many bytes the first area is too short, the forms as the header has them where they are bad, the
-    values of TSCALn and TZEROn by their names."""
+    values of TSCALn, TZEROn and TNULLn by their names."""
     rows = [b''] * rows if isinstance(rows, int) else [flat(row) for row in rows]
     naxis1 = sum(field_bytes(form) for form in forms)
     assert all(len(row) == naxis1 for row in rows), why
     area = b''.join(rows) + heap + extra
     area = area[:len(area) - short]
-    header = header_of(forms, len(rows), len(heap), gap, written, dict(scales).items())
+    header = header_of(forms, len(rows), len(heap), gap, written, dict(keywords).items())
     return Case(why, said, header, area, other, indexes, follow, opening, flagged(random.Random(why), steps))
 
 
+def numbers_in(words):
+    """The numbers of a value that is printed, or U."""
+    return ','.join(words[1:] or words)
+
+
 def answers(lines):
-    """The answers of a case in short: the numbers of each cell, `end`, `sought`, a refusal as 13:0, the number of a row
-    read as row:2. A list that is not empty stands behind, each cell by its numbers or as _ where none was stored."""
+    """The answers of a case in short: the numbers of each cell, U for an unset one, `end`, `sought`, a refusal as 13:0,
+    the number of a row read as row:2. A list that is not empty stands behind, each cell by its numbers or as _ where
+    none was stored."""
     made, lists = [], []
     for line in lines[1:]:
         words = line.split()
         if words[0] == 'list':
             untouched = words[2:] == told(UNTOUCHED).split()
-            lists[-1].append('_' if untouched else ','.join(words[7:]))
+            lists[-1].append('_' if untouched else numbers_in(words[6:]))
         elif words[0] not in ('at', 'opened'):
-            short = {'cell': ','.join(words[5:]), 'refused': ':'.join(words[1:]), 'row': ':'.join(words)}
+            short = {'cell': numbers_in(words[4:]), 'refused': ':'.join(words[1:]), 'row': ':'.join(words)}
             made.append(short.get(words[0], words[0]))
             lists.append([])
     return ' '.join(one + ('[%s]' % ';'.join(cells) if cells else '') for one, cells in zip(made, lists))
@@ -1059,8 +1072,8 @@ def scaled_number_cases():
     infinity, nan = float('inf'), float('nan')
     odd = doubles(infinity, -infinity, 0.0, *[nan] * 8)
 
-    def one(why, said, forms, row, **scales):
-        return case('scaled: ' + why, said, forms, [row], scaling(reads(len(said.split()))), scales=scales)
+    def one(why, said, forms, row, **keywords):
+        return case('scaled: ' + why, said, forms, [row], scaling(reads(len(said.split()))), keywords=keywords)
 
     return [
         one('exact whole numbers, and the end', SHIFTED + ' end', forms, row, **ZEROS),
@@ -1099,7 +1112,7 @@ def scaled_cases():
     ten, less, half, seven, eight, nine = doubles(10.0, -10.0, -0.5, 7.5, 8.5, 9.5).split()
 
     def arrays_of(why, said, steps, **more):
-        return case('scaled: ' + why, said, mixed, rows, steps, heap=heap, scales={
+        return case('scaled: ' + why, said, mixed, rows, steps, heap=heap, keywords={
             'TSCAL1': '2', 'TZERO2': '0.5', 'TSCAL3': '-1', 'TZERO3': '1'}, **more)
 
     return scaled_number_cases() + [
@@ -1107,7 +1120,7 @@ def scaled_cases():
              'row:12[%s] sought row:12[%s] sought -128 0 255 -32768 row:8[%s]' % (
                  SHIFTED.replace(' ', ';'), STORED.replace(' ', ';'), ';'.join(SHIFTED.split()[4:])), WHOLE_FORMS,
              [WHOLE_ROW], scaling(row_reads(12)) + seek(0) + row_reads(12) + seek(0) + scaling(reads(2)) + reads(2)
-             + scaling(row_reads(8)), scales=ZEROS),
+             + scaling(row_reads(8)), keywords=ZEROS),
         arrays_of('cells of arrays and of other types', ' '.join([
             ten, less, seven, half, '97 98 0', eight, '99 100', less, nine, '13:2 13:2']), scaling(reads(14))),
         arrays_of('descriptors that are not followed', ' '.join([
@@ -1123,8 +1136,103 @@ def scaled_cases():
                   put(0, 1, LARGEST_COUNT - 1) + scaling(reads(3) + row_reads(4)) + put(9, 0)
                   + scaling(reads() + row_reads(2)) + choose(1, 3) + put(0, 0) + scaling(row_reads(4) + reads(2))
                   + scaling(reads(1, first(9)) + row_reads(1, of=first(9)))),
-        case('16: a zero of 16 digits', '', ['1I'], [be(2, 1)], reads(), scales={'TZERO1': '1234567890.123456'}),
-        case('16: characters', '', ['1I', '1A'], [be(2, 1) + b'a'], reads(), scales={'TSCAL2': '1'}),
+        case('16: a zero of 16 digits', '', ['1I'], [be(2, 1)], reads(), keywords={'TZERO1': '1234567890.123456'}),
+        case('16: characters', '', ['1I', '1A'], [be(2, 1) + b'a'], reads(), keywords={'TSCAL2': '1'}),
+    ]
+
+
+def nulls_of(*values):
+    return {'TNULL%d' % n: value for n, value in enumerate(values, 1)}
+
+
+LOWEST = nulls_of('0', '-32768', '-2147483648', '-9223372036854775808')
+# of each of these columns the unsigned number, and numbers that differ from a stored one by a power of 2
+NEVER = [
+    nulls_of('256', '32768', '2147483648', '9223372036854775808'),
+    nulls_of('-128', '-32769', '-2147483649', '-9223372036854775809'),
+    nulls_of('384', '65535', '4294967295', '9999999999999999999'),
+    nulls_of('-1', '65536', '4294967296', '-9999999999999999999'),
+    nulls_of('-256', '-65536', '-4294967297', '+9223372036854775808'),
+]
+
+
+def null_number_cases():
+    """One item after the other in both readings, the numbers at the ends of their ranges as nulls."""
+    def one(why, said, nulls, **more):
+        return case('null: ' + why, said, WHOLE_FORMS, [WHOLE_ROW], reads(12), keywords={**nulls, **more})
+
+    def one_scaled(why, said, nulls, **more):
+        return case('null, scaled: ' + why, said, WHOLE_FORMS, [WHOLE_ROW], scaling(reads(12)),
+                    keywords={**nulls, **more})
+
+    low = 'U 128 255 U 0 32767 U -1 2147483647 U -1 9223372036854775807'
+    high = nulls_of('255', '+32767', '0000000002147483647', '9223372036854775807')
+    middle = nulls_of('128', '-0', '-1', '-0000000000000000001')
+    rest = doubles(128.0, 255.0), doubles(0.0, 32767.0), doubles(-1.0, 2.0 ** 31 - 1), doubles(-1.0, 2.0 ** 63)
+    return [
+        one('the lowest numbers', low, LOWEST),
+        one('the highest numbers', '0 128 U -32768 0 U -2147483648 -1 U -9223372036854775808 -1 U', high),
+        one('numbers between', '0 U 255 -32768 U 32767 -2147483648 U 2147483647 -9223372036854775808 U '
+            '9223372036854775807', middle),
+        *[one('numbers that are none of the column, %d' % k, STORED, nulls) for k, nulls in enumerate(NEVER)],
+        one('factors and zeros are no matter', low, LOWEST, TSCAL1='2', TSCAL3='1E22', **ZEROS),
+        one_scaled('what the scaled values are', SHIFTED, nulls_of('127', '65535', '4294967295', '9223372036854775808'),
+                   **ZEROS),
+        one_scaled('before the exact whole numbers', 'U 0 127 U 32768 65535 U 2147483647 4294967295 U '
+                   '9223372036854775807 18446744073709551615', LOWEST, **ZEROS),
+        one_scaled('numbers that are none of the column', SHIFTED, NEVER[2], **ZEROS),
+        one_scaled('no scaling', ' '.join('U ' + two for two in rest), LOWEST),
+        one_scaled('the factor 0', ' '.join(['U 0 0'] * 4), LOWEST, TSCAL1='0', TSCAL2='0', TSCAL3='0', TSCAL4='0'),
+    ]
+
+
+def null_array_cases():
+    """Arrays of each type, followed or not. The nulls of the first four are numbers of their descriptors."""
+    forms = [kind + letter for kind in ('1P', '1Q') for letter in INTEGERS]
+    row = [descriptor(3, at) for descriptor in (p, q) for at in (0, 3, 9, 21)]
+    zeros = {'TZERO%d' % (n + 4): ZEROS['TZERO%d' % n] for n in range(1, 5)}
+    plain = doubles(*[float(number) for number in STORED.split()])
+
+    def one(why, said, steps, **more):
+        nulls = nulls_of('3', '3', '9', '21', '0', '-32768', '2147483647', '-1')
+        return case('null: ' + why, said, forms, [row], steps, heap=WHOLE_ROW, keywords={**nulls, **zeros}, **more)
+
+    return [
+        one('arrays of each type', STORED + ' U 128 255 U 0 32767 -2147483648 -1 U -9223372036854775808 U '
+            '9223372036854775807', reads(24)),
+        one('descriptors that are not followed', '3,0 3,3 3,9 3,21 3,0 3,3 3,9 3,21 end', reads(9), follow=False),
+        one('arrays of each type, scaled', plain + ' U 0 127 U 32768 65535 0 2147483647 U 0 U 18446744073709551615',
+            scaling(reads(24))),
+    ]
+
+
+def null_cases():
+    """Missing values, and refusal 17."""
+    # the entries of a row are 10, 6 and 4, of which the last of row 2 is a 13
+    forms = ['1PI', '1B', '1QE', '2B', '1L', '1PX', '1I']
+    rows = [p(3, 0) + b'\x07' + q(1, 6) + b'\x07\x08\0' + p(8, 0) + be(2, 7),
+            p(1, 2) + b'\x08' + q(0, 0) + b'\x09\x07\x07' + p(0, 0) + be(2, 8),
+            p(2, 0) + b'\x07' + q(9, 4) + b'\x07\x07T' + p(0, 0) + be(2, 9)]
+    heap = be(2, 7, 8, -7) + be(4, 0x3FC00000)
+
+    def one(why, said, steps, **more):
+        return case('null: ' + why, said, forms, rows, steps, heap=heap, keywords={
+            'TNULL1': '-7', 'TNULL2': '7', 'TNULL4': '8', 'TNULL7': '9', 'TSCAL7': '2'}, **more)
+
+    scaled_row = doubles(7.0, 8.0).split() + ['U', 'U'] + doubles(1.5, 7.0).split() + ['U', '2', '0', doubles(14.0)]
+    return null_number_cases() + null_array_cases() + [
+        one('rows and cells', 'row:10[7;8;U;U;1069547520;7;U;2;0;7] row:6[8;8;9;7;3,7;8] 7 8 U 13:2 13:2',
+            row_reads(10) + row_reads(6) + reads(5)),
+        one('the rest of a row, and 14', '7 8 U 14:7[_;_] row:7[U;1069547520;7;U;2;0;7;_] 8 8 row:4[9;7;3,7;8]',
+            reads(3) + row_reads(2) + row_reads(8) + reads(2) + row_reads(4)),
+        one('a scaled row beside a plain one', 'row:10[%s] sought row:10[7;8;U;U;1069547520;7;U;2;0;7]' % ';'.join(
+            scaled_row), scaling(row_reads(10)) + seek(0) + row_reads(10)),
+        one('a choice, the heap off', '3,0 7 U 7 1,2 9 7 8 2,0 7 7 U end', reads(13), indexes=[0, 3, 6], follow=False),
+        one('each column has its own', 'U 7 U 8 9 7 U 7 7 end', reads(10), indexes=[3, 1]),
+        case('17: 20 digits', '', ['1I'], [be(2, 1)], reads(), keywords={'TNULL1': '00000000000000000001'}),
+        case('17: a point', '', ['1I'], [be(2, 1)], reads(), keywords={'TNULL1': '1.'}),
+        case('17: characters', '', ['1I', '1A'], [be(2, 1) + b'a'], reads(), keywords={'TNULL2': '97'}),
+        case('17: an array of E', '', ['1PE'], [p(0, 0)], reads(), keywords={'TSCAL1': '1', 'TNULL1': '0'}),
     ]
 
 
@@ -1132,7 +1240,7 @@ def named():
     """All of them."""
     return (value_cases() + heap_cases() + end_cases() + row_cases() + choice_cases() + seek_cases() + area_cases()
             + place_cases() + row_read_cases() + row_heap_cases() + row_place_cases() + empty_field_cases()
-            + counted_form_cases() + scaled_cases())
+            + counted_form_cases() + scaled_cases() + null_cases())
 
 
 # ---- random cases ----
@@ -1148,9 +1256,11 @@ EDGES = {
 }
 
 
-def random_item(rng, letter):
-    """The bytes of an item: near an edge, or any."""
+def random_item(rng, letter, few=False):
+    """The bytes of an item: near an edge, or any; or one of few, so that many are the same."""
     parts, width = (2, item_width(letter) // 2) if letter in 'CM' else (1, item_width(letter))
+    if few:
+        return b''.join(be(width, rng.choice([0, 256 ** width // 2, -1])) for _ in range(parts))
     return b''.join(be(width, rng.choice([rng.choice(EDGES[width]), rng.randrange(256 ** width)]))
                     for _ in range(parts))
 
@@ -1223,6 +1333,46 @@ def random_scales(rng, forms):
     return made
 
 
+NO_INTEGERS = ['1.0', '1E3', '', "'1'", '1 2', '00000000000000000007', '99999999999999999999']
+
+
+def null_number(rng, letter, values):
+    """A number as a null: one that is stored, one that differs from it by a power of 2, or one near an end."""
+    power = 2 ** (8 * item_width(letter))
+    ends = [0, power // 2, power]
+    number = rng.choice(values or ends) if rng.randrange(5) else rng.choice(ends) + rng.randrange(-2, 2)
+    number += rng.choice([0] * 9 + [power, -power, 1, -1])
+    if abs(number) >= 10 ** 19:
+        number %= 10 ** 19
+    digits = '%d' % abs(number)
+    zeros = rng.choice([0, 0, 0, 1, 19 - len(digits)])
+    return ('-' if number < 0 else rng.choice(['', '', '+'])) + digits.zfill(min(19, len(digits) + zeros))
+
+
+def random_nulls(rng, forms, stored):
+    """TNULLn of columns, most of those that may have it, and now and then of another or a bad one. `stored` are the
+    numbers of each column."""
+    made = {}
+    for n, form in enumerate(forms, 1):
+        letter = form_of(text(form))[0][-1]
+        if letter in INTEGERS and rng.randrange(3):
+            number = null_number(rng, letter, stored[n - 1])
+            made['TNULL%d' % n] = rng.choice(NO_INTEGERS) if rng.randrange(150) == 0 else number
+        elif rng.randrange(150) == 0:
+            made['TNULL%d' % n] = '0'
+    return made
+
+
+def stored_numbers(layout, area):
+    """The numbers of each column whose items may be missing values."""
+    made = [[] for _ in layout.columns]
+    for row in range(layout.rows):
+        for entry in row_entries(layout, area, range(len(made)), True, row):
+            if not isinstance(entry, Bad) and entry.kind in INTEGERS:
+                made[entry.column] += entry.value
+    return made
+
+
 def above_one(rng, forms):
     """The forms with more than one descriptor in a field of P or Q, if there is one."""
     places = [c for c, form in enumerate(forms) if form_of(text(form))[0][0] in DESCRIPTOR]
@@ -1232,7 +1382,7 @@ def above_one(rng, forms):
     return forms[:c] + [rng.choice(ABOVE_ONE) + forms[c].lstrip('01')] + forms[c + 1:]
 
 
-def random_field(rng, of, room, clean, sparse):
+def random_field(rng, of, room, clean, sparse, few):
     form, count, size = form_of(text(of))
     if size == 0:
         return b''
@@ -1240,12 +1390,12 @@ def random_field(rng, of, room, clean, sparse):
         if rng.random() < sparse:
             return (p if form[0] == 'P' else q)(0, rng.randrange(2 ** 32))
         return random_descriptor(rng, form, room, clean)
-    return b''.join(random_item(rng, form) for _ in range(item_count(form, count)))
+    return b''.join(random_item(rng, form, few) for _ in range(item_count(form, count)))
 
 
-def random_rows(rng, forms, rows, room, clean):
+def random_rows(rng, forms, rows, room, clean, few):
     sparse = rng.choice([0, 0, 0.3, 0.9])
-    return b''.join(random_field(rng, form, room, clean, sparse) for _ in range(rows) for form in forms)
+    return b''.join(random_field(rng, form, room, clean, sparse, few) for _ in range(rows) for form in forms)
 
 
 def random_indexes(rng, columns):
@@ -1311,14 +1461,18 @@ def random_case(rng):
     gap = rng.choice([None, None, 0, rng.randrange(pcount + 1), pcount])
     clean = rng.randrange(3) != 0
     room = pcount - (gap or 0)
-    heap = b''.join(random_item(rng, rng.choice('BIJK')) for _ in range(pcount))[:pcount]
-    area = random_rows(rng, forms, rows, room, clean) + heap
+    few = rng.randrange(3) == 0
+    heap = b''.join(random_item(rng, rng.choice('BIJK'), few) for _ in range(pcount))[:pcount]
+    area = random_rows(rng, forms, rows, room, clean, few) + heap
     other = b''
     if rng.randrange(3) == 0:
-        other = random_rows(rng, forms, rows, room, clean) + heap[::-1] + bytes(rng.choice([0, 0, 1, 5]))
-    scales = {} if wide or rng.randrange(3) == 0 else random_scales(rng, forms)
-    header = header_of(forms, rows, pcount, gap, above_one(rng, forms) if rng.randrange(30) == 0 else None,
-                       scales.items())
+        other = random_rows(rng, forms, rows, room, clean, few) + heap[::-1] + bytes(rng.choice([0, 0, 1, 5]))
+    keywords = {} if wide or rng.randrange(3) == 0 else random_scales(rng, forms)
+    if rng.randrange(2):
+        stored = stored_numbers(layout_of(header_of(forms, rows, pcount, gap), len(area)), area)
+        keywords.update(list(random_nulls(rng, forms, stored).items())[:30])
+    given = rng.sample(list(keywords.items()), len(keywords))
+    header = header_of(forms, rows, pcount, gap, above_one(rng, forms) if rng.randrange(30) == 0 else None, given)
     area += bytes(rng.choice([0, 0, 0, 1, 20]))
     if rng.randrange(40) == 0:
         area = area[:max(0, len(area) - rng.choice([1, 2, 21]))]
@@ -1416,9 +1570,10 @@ def tell(cases, size, said):
     words = collections.Counter(' '.join(line.split()[:2]) if line.startswith('refused') else line.split()[0]
                                 for line in said.splitlines())
     told_counts = ', '.join('%s %d' % (word, words[word]) for word in sorted(words) if word not in ('case', 'at'))
+    unset = sum(line.endswith(' U') for line in said.splitlines())
     steps = words['at'] - words['opened']
-    print('%d cases, %d steps, %d bytes; %s; %s' % (len(cases), steps, size, runs_of(cases), told_counts),
-          file=sys.stderr)
+    print('%d cases, %d steps, %d bytes; %s; %s; unset cells %d' % (
+        len(cases), steps, size, runs_of(cases), told_counts, unset), file=sys.stderr)
 
 
 def write(cases, folder, most):
@@ -1880,6 +2035,41 @@ refused 10 0
 at 0 4 0
 list 0 cell 999 99 9 X 165
 list 1 cell 999 99 9 X 165
+''',
+    'null: the rest of a row, and 14': '''
+accepted
+opened
+at 0 0 0
+cell 0 0 0 I 7
+at 0 1 1
+cell 0 0 1 I 8
+at 0 2 2
+cell 0 0 2 U
+at 0 3 3
+refused 14 7
+at 0 3 3
+list 0 cell 999 99 9 X 165
+list 1 cell 999 99 9 X 165
+row 7
+at 1 0 10
+list 0 cell 0 1 0 U
+list 1 cell 0 2 0 E 1069547520
+list 2 cell 0 3 0 B 7
+list 3 cell 0 3 1 U
+list 4 cell 0 4 0 L 2
+list 5 cell 0 5 0 X 0
+list 6 cell 0 6 0 I 7
+list 7 cell 999 99 9 X 165
+cell 1 0 0 I 8
+at 1 1 11
+cell 1 1 0 B 8
+at 1 2 12
+row 4
+at 2 0 16
+list 0 cell 1 3 0 B 9
+list 1 cell 1 3 1 B 7
+list 2 cell 1 4 0 L 3 7
+list 3 cell 1 6 0 I 8
 ''',
     'the count of row reads stops': '''
 accepted

@@ -219,6 +219,10 @@ refused 's/1J/0PE/' "9 0: $none"
 refused 's/1J/00QD/' "9 0: $none"
 need='the data need NAXIS1 x NAXIS2 + PCOUNT bytes'
 refused 's/^NAXIS2.*/NAXIS2  = 3/' "10 0: the file is shorter than its header says: $need"
+no_number='is not a number that this reader takes, is given twice, or stands at a column whose type has no scaling'
+refused "\$i TZERO2  = x" "16 2: TSCAL2 or TZERO2 $no_number: those of B, I, J, K, E and D have one"
+no_null='is not an integer of at most 19 digits, is given twice, or stands at a column whose type has no missing values'
+refused "\$i TNULL2  = 1.5" "17 2: TNULL2 $no_null: those of B, I, J and K have them"
 table large.fits 's/^NAXIS2.*/NAXIS2  = 10443/'
 head -c 70000 /dev/zero >>"$work/large.fits"
 more='refused 10 0: the table needs more than the first 65,536 bytes of the file, and no more are read'

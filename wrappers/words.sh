@@ -101,6 +101,10 @@ words() { # NUMBER PLACE TABLE
         say_all "TSCAL$2 or TZERO$2 is not a number that this reader takes, is given twice, or stands at a column " \
             'whose type has no scaling: those of B, I, J, K, E and D have one'
         ;;
+    17)
+        say_all "TNULL$2 is not an integer of at most 19 digits, is given twice, or stands at a column whose type " \
+            'has no missing values: those of B, I, J and K have them'
+        ;;
     *) echo 'docs/FORMAT.md, section 10, does not have this number' ;;
     esac | if [ "$1" -le 4 ] && whole_file "$3"; then
         printf '%s; ' "$(cat)"

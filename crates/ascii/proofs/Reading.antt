@@ -127,10 +127,10 @@ pub digits_whole : (s : List ℕ) → (length s ≡ 0 → ⊥) → front digit s
 unfolding number
 digits_whole s some e = rw (lt-ltb 0 (length s) (omega (arith, some)), eq-eqb (front digit s) (length s) e)
 
--- so 18 of them are
-pub digits_number : (s : List ℕ) (n : ℕ) → (n ≡ 0 → ⊥) → n ≤ 18 → n ≤ front digit s → number (take n s) ≡ Some (decimal 0 (take n s))
+-- so 19 of them are
+pub digits_number : (s : List ℕ) (n : ℕ) → (n ≡ 0 → ⊥) → n ≤ 19 → n ≤ front digit s → number (take n s) ≡ Some (decimal 0 (take n s))
 digits_number s n some few h =
-    let d : decimal 0 (take n s) < 2 ^ 64 = omega (arith, decimal_below s n h, ten_le 18 few) in
+    let d : decimal 0 (take n s) < 2 ^ 64 = omega (arith, decimal_below s n h, ten_le 19 few) in
     rw (lt-ltb (decimal 0 (take n s)) (2 ^ 64) d) at (digits_any s n some h)
 
 -- what was found of a number that may be too large

@@ -10,5 +10,8 @@ pub mod BadForm
 pub mod Empty
 pub mod Scaled
 pub mod RealRecords
+pub mod Nulls
+pub mod NullRecords
 pub mod TypeZeros
 pub mod ScaledHeaders
+pub mod NullHeaders

@@ -20,7 +20,7 @@ use Rattle.keyword.specs.Names.{numeral, range}
 use Rattle.keyword.proofs.Position.{position_at, map_at, range_at, length_range}
 use Rattle.header.specs.Records.{records, has_end, before_end, names}
 use Rattle.header.specs.Checks.{bad_length, names_read, record_of}
-use Rattle.refusal.specs.Refusal.{accepted, refused}
+use Rattle.refusal.specs.Refusal.{accepted, refused, before}
 use Rattle.real.specs.Real.{real_of, field_real, real_at}
 use Rattle.real.specs.Written.{proper}
 use Rattle.real.proofs.Laws.{Says, written_read, read_written, finite, read_fits}
@@ -29,7 +29,7 @@ use Rattle.tform.specs.declared.TForm.{TForm}
 use Rattle.tform.specs.Width.{can_scale}
 use Rattle.layout.specs.declared.BinTable.{BinTable}
 use Rattle.layout.specs.Layout.{no_scaling, no_column}
-use Rattle.bintable.specs.Checks.{is_string, value_at, tform_of, ttype_of, tscal_of, tzero_of, scaling_given, twice, real_or, factor_of, scaling_ok, check4, check5, check16, first_refusal}
+use Rattle.bintable.specs.Checks.{is_string, value_at, tform_of, ttype_of, tscal_of, tzero_of, scaling_given, twice, real_or, factor_of, scaling_ok, check4, check5, check16, check17, first_refusal}
 use Rattle.bintable.specs.Entry.{form_for, column_check, entry}
 use Rattle.bintable.specs.Entry as E
 use Rattle.bintable.proofs.Checked.{before_accepted}
@@ -171,6 +171,10 @@ module _ (h : List ℕ) where
           number_read no_scaling.zero (bytes "TZERO" ++ numeral n) (tzero_of h n) (omega arith) refl s.zero,
         )
 
+    pub scaled : (f : TFormType) → Scales f → check16 h n f ≡ accepted
+    unfolding check16
+    scaled f s = rw (scales_ok f s, or-true (not (scaling_given h n)))
+
     ok_scales : (f : TFormType) → scaling_ok h n f ≡ true → Scales f
     ok_scales f e =
         let a = both (can_scale f) _ e in let b = both (not (twice h n)) _ a.1 in
@@ -190,17 +194,16 @@ module _ (h : List ℕ) where
     module _ (f : TForm) (four : check4 n (tform_of h n) ≡ accepted)
         (five : check5 (is_string (value_at h (tform_of h n))) (tform_of h n) ≡ accepted) (form : form_for h n ≡ Some f)
         (name : check5 (is_string (value_at h (ttype_of h n))) (ttype_of h n) ≡ accepted) where
-      by_sixteen : column_check h n ≡ check16 h n f.form
+      pub by_sixteen : column_check h n ≡ before (check16 h n f.form) (check17 h n f.form)
       unfolding column_check first_refusal
-      by_sixteen = rw (four, five, form, name) (before_accepted (check16 h n f.form))
+      by_sixteen = rw (four, five, form, name) (ap (before (check16 h n f.form)) (before_accepted (check17 h n f.form)))
 
-      -- is accepted without the two keywords, and with one or both of them where it is scaled by numbers
-      pub column_unscaled : scaling_given h n ≡ false → column_check h n ≡ accepted
-      column_unscaled none = by_sixteen ∙ (unscaled h n none 0 f.form).2
+      -- is not refused with 16 without the two keywords, nor with one or both of them where it is scaled by numbers
+      pub column_unscaled : scaling_given h n ≡ false → column_check h n ≡ check17 h n f.form
+      column_unscaled none = by_sixteen ∙ rw (unscaled h n none 0 f.form).2
 
-      pub column_scaled : Scales f.form → column_check h n ≡ accepted
-      unfolding check16
-      column_scaled s = by_sixteen ∙ rw (scales_ok f.form s, or-true (not (scaling_given h n)))
+      pub column_scaled : Scales f.form → column_check h n ≡ check17 h n f.form
+      column_scaled s = by_sixteen ∙ rw (scaled f.form s)
 
       -- and is refused with 16 and its number in any other case
       pub bad_scaling : scaling_given h n ≡ true → (Scales f.form → ⊥) → column_check h n ≡ refused 16 n

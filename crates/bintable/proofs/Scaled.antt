@@ -32,11 +32,11 @@ neither : (t u : Bool) → (t || u) ≡ false → (t ≡ false) × (u ≡ false)
 neither true u e = cc
 neither false u e = (refl, e)
 
-not_found : (r : Option ℕ) → found r ≡ false → r ≡ None
+pub not_found : (r : Option ℕ) → found r ≡ false → r ≡ None
 not_found (Some k) e = cc
 not_found None e = refl
 
-not_true : (t : Bool) → not t ≡ true → t ≡ false
+pub not_true : (t : Bool) → not t ≡ true → t ≡ false
 not_true true e = cc
 not_true false e = refl
 
@@ -93,7 +93,7 @@ module _ (h : List ℕ) where
         let a = first_accepted _ _ e in let b = first_accepted _ _ a.1 in let c = first_accepted _ _ b.1 in
         let d = first_accepted _ _ c.1 in (first_accepted _ _ d.1).0
 
-  one_passes : (k m : ℕ) → column_checks h m ≡ accepted → k < m → column_check h (k + 1) ≡ accepted
+  pub one_passes : (k m : ℕ) → column_checks h m ≡ accepted → k < m → column_check h (k + 1) ≡ accepted
   one_passes k zero e p = absurd (omega arith)
   one_passes k (suc m) e p =
       let b = both_accepted (column_checks h m) (column_check h (m + 1)) (checks_next h m ∙ ap (column_checks h) (add-one m) ∙ e) in
@@ -102,13 +102,13 @@ module _ (h : List ℕ) where
 
   -- the scaling of column c, from 0, of a layout that the entry returns
   module _ (a : List ℕ) (l : BinTable) (taken : entry h a ≡ E.accepted l) (c : ℕ) (p : c < l.tfields) where
-    column_is : (b : ℕ) × (get_or l.columns c no_column ≡ column_at h (c + 1) b)
+    pub column_is : (b : ℕ) × (get_or l.columns c no_column ≡ column_at h (c + 1) b)
     column_is =
         let P : BinTable → Type 0 =
         λ m. c < m.tfields → (b : ℕ) × (get_or m.columns c no_column ≡ column_at h (c + 1) b) in
         subst P (sym (entry_layout h a l taken)) (column_in h c) p
 
-    inside : c < size_for h "TFIELDS"
+    pub inside : c < size_for h "TFIELDS"
     unfolding layout_of
     inside = subst (λ (m : BinTable). c < m.tfields) (entry_layout h a l taken) p
 

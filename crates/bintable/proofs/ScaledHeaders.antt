@@ -23,10 +23,11 @@ use Rattle.tform.specs.declared.VariableArrayTy.TheVariants as T
 use Rattle.tform.specs.declared.TFormType.TheVariants as F
 use Rattle.tform.specs.Width.{among, letter_width, can_scale}
 use Rattle.tform.specs.Form.{repeat_count, element_among, element_of, first_element, kind_of, form_of}
+use Rattle.layout.specs.declared.Null.TheVariants as N
 use Rattle.layout.specs.declared.BinTable.{BinTable}
 use Rattle.layout.specs.Layout.{no_column, row_bytes}
-use Rattle.bintable.specs.Checks.{scaling_given, twice, check16, first_refusal}
-use Rattle.bintable.specs.Entry.{scaling_of, required, limited, theap_check, nine, nine_checks, column_check, column_checks, columns_from, layout_of, check9, check10, header_checks, all_checks, accepted, refused, entry}
+use Rattle.bintable.specs.Checks.{scaling_given, twice, check16, check17, first_refusal}
+use Rattle.bintable.specs.Entry.{scaling_of, null_of, required, limited, theap_check, nine, nine_checks, column_check, column_checks, columns_from, layout_of, check9, check10, header_checks, all_checks, accepted, refused, entry}
 
 -- a record: its text, and spaces up to 80 bytes
 unfoldable pub padded : String → List ℕ
@@ -74,6 +75,7 @@ table =
             name = None;
             scaling_given = true;
             scaling = record { factor = double 0x3FF0000000000000; zero = double 0x40E0000000000000 };
+            null = N.NotGiven;
           }
           ∷ record {
             form = F.Items T.E;
@@ -82,6 +84,7 @@ table =
             name = None;
             scaling_given = true;
             scaling = record { factor = double 0x4000000000000000; zero = double 0x3FD0000000000000 };
+            null = N.NotGiven;
           }
           ∷ replicate 62 no_column;
     }
@@ -91,7 +94,7 @@ abbrev pub area : List ℕ
 area = 0x00 ∷ 0x01 ∷ 0x3F ∷ 0xC0 ∷ 0x00 ∷ 0x00 ∷ 0xFF ∷ 0xFF ∷ 0x7F ∷ 0xA0 ∷ 0x00 ∷ 0x01 ∷ []
 
 pub enters : entry header area ≡ accepted table
-unfolding header table padded bytes same front spaces trim follows decimal closing card_at is_end has_value name_of digits_value integer_value string_value value_from field_value value_of range numeral indexed single once_roots once_names flat_map position records has_end before_end names second repeated_after bad_length check1 check2 check3 checked names_read nearest with_exponent without_exponent unsigned real_at round of_bits among letter_width can_scale repeat_count element_among element_of first_element kind_of form_of row_bytes first_refusal required limited theap_check nine nine_checks twice check16 scaling_given scaling_of column_check column_checks columns_from layout_of check9 check10 header_checks all_checks
+unfolding header table padded bytes same front spaces trim follows decimal closing card_at is_end has_value name_of digits_value integer_value string_value value_from field_value value_of range numeral indexed single once_roots once_names flat_map position records has_end before_end names second repeated_after bad_length check1 check2 check3 checked names_read nearest with_exponent without_exponent unsigned real_at round of_bits among letter_width can_scale repeat_count element_among element_of first_element kind_of form_of row_bytes first_refusal required limited theap_check nine nine_checks twice check16 check17 scaling_given scaling_of null_of column_check column_checks columns_from layout_of check9 check10 header_checks all_checks
 enters = refl
 
 -- ---- what is refused
@@ -140,10 +143,10 @@ pub columns_refused : (column_check bad_header 1 ≡ O.accepted)
     × (column_check bad_header 7 ≡ O.refused 5 21)
     × (check16 bad_header 7 (F.Items T.E) ≡ O.refused 16 7)
     × (column_check bad_header 8 ≡ O.refused 16 8)
-unfolding bad_header padded bytes same front spaces trim follows decimal closing card_at is_end has_value name_of digits_value integer_value string_value value_from field_value value_of range numeral position records has_end before_end names second bad_length names_read nearest with_exponent without_exponent unsigned real_at round among can_scale repeat_count element_among element_of first_element kind_of form_of first_refusal twice check16 scaling_given column_check
+unfolding bad_header padded bytes same front spaces trim follows decimal closing card_at is_end has_value name_of digits_value integer_value string_value value_from field_value value_of range numeral position records has_end before_end names second bad_length names_read nearest with_exponent without_exponent unsigned real_at round among can_scale repeat_count element_among element_of first_element kind_of form_of first_refusal twice check16 check17 scaling_given column_check
 columns_refused = (refl, refl, refl, refl, refl, refl, refl, refl, refl)
 
 -- the first of them decides: 16 of column 2 comes before 8 of column 3
 pub bad_entry : entry bad_header [] ≡ refused 16 2
-unfolding bad_header padded bytes same front spaces trim follows decimal closing card_at is_end has_value name_of digits_value integer_value string_value value_from field_value value_of range numeral indexed single once_roots once_names flat_map position records has_end before_end names second repeated_after bad_length check1 check2 check3 checked names_read nearest with_exponent without_exponent unsigned real_at round of_bits among letter_width can_scale repeat_count element_among element_of first_element kind_of form_of row_bytes first_refusal required limited theap_check nine nine_checks twice check16 scaling_given scaling_of column_check column_checks columns_from layout_of check9 check10 header_checks all_checks
+unfolding bad_header padded bytes same front spaces trim follows decimal closing card_at is_end has_value name_of digits_value integer_value string_value value_from field_value value_of range numeral indexed single once_roots once_names flat_map position records has_end before_end names second repeated_after bad_length check1 check2 check3 checked names_read nearest with_exponent without_exponent unsigned real_at round of_bits among letter_width can_scale repeat_count element_among element_of first_element kind_of form_of row_bytes first_refusal required limited theap_check nine nine_checks twice check16 check17 scaling_given scaling_of null_of column_check column_checks columns_from layout_of check9 check10 header_checks all_checks
 bad_entry = refl

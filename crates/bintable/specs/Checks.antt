@@ -1,13 +1,13 @@
--- The values of the used names, and the checks 4 to 8 and 16 of their records (FORMAT.md, sections 3, 4 and 10).
+-- The values of the used names, and the checks 4 to 8, 16 and 17 of their records (FORMAT.md, sections 3, 4 and 10).
 -- Assumes nothing.
-use Rattle.std.specs.Prelude.{ℕ, List, [], ◌∷◌, ◌++◌, Bool, true, false, not, ◌&&◌, ◌||◌, cond, take, drop, leb, pos, negsuc, Option, Some, None, is_some}
+use Rattle.std.specs.Prelude.{ℕ, List, [], ◌∷◌, ◌++◌, Bool, true, false, not, ◌&&◌, ◌||◌, cond, take, drop, leb, ℤ, pos, negsuc, Option, Some, None, is_some}
 use Rattle.std.specs.Float.{Float}
 use Prim.Native.String.{String}
 use Rattle.card.specs.declared.Value.{Value}
 use Rattle.card.specs.declared.Value.TheVariants.{Integer}
 use Rattle.card.specs.declared.Value.TheVariants as Val
 use Rattle.ascii.specs.Text.{bytes}
-use Rattle.card.specs.Value.{value_of}
+use Rattle.card.specs.Value.{value_of, wide_of}
 use Rattle.keyword.specs.Names.{numeral}
 use Rattle.header.specs.Records.{found}
 use Rattle.refusal.specs.Refusal.{Outcome, accepted, refused, before}
@@ -15,7 +15,7 @@ use Rattle.header.specs.Checks.{record_of, second_of}
 use Rattle.real.specs.Real.{real_at}
 use Rattle.tform.specs.declared.TFormType.{TFormType}
 use Rattle.tform.specs.declared.TForm.{TForm}
-use Rattle.tform.specs.Width.{can_scale}
+use Rattle.tform.specs.Width.{can_scale, can_have_null}
 use Rattle.layout.specs.Layout.{no_scaling}
 
 -- ---- what a value is
@@ -101,6 +101,25 @@ factor_of h n = real_or no_scaling.factor h (tscal_of h n)
 abbrev pub zero_of : List ℕ → ℕ → Option Float
 zero_of h n = real_or no_scaling.zero h (tzero_of h n)
 
+-- the record of the null of column n, whether it stands in the header, and whether it is given twice
+abbrev pub tnull_of : List ℕ → ℕ → Option ℕ
+tnull_of h n = record_of h (bytes "TNULL" ++ numeral n)
+
+abbrev pub null_given : List ℕ → ℕ → Bool
+null_given h n = found (tnull_of h n)
+
+abbrev pub null_twice : List ℕ → ℕ → Bool
+null_twice h n = found (second_of h (bytes "TNULL" ++ numeral n))
+
+-- the integer of a record, of 19 digits at most, if its value is one; a missing record has none
+abbrev pub wide_at : List ℕ → Option ℕ → Option ℤ
+wide_at h (Some k) = wide_of h k
+wide_at h None = None
+
+-- the request's term "mark": the integer of TNULLn
+abbrev pub null_number : List ℕ → ℕ → Option ℤ
+null_number h n = wide_at h (tnull_of h n)
+
 -- ---- the checks, by their numbers
 
 -- a check of a record, which refuses with this number and the record as its place. A missing record passes: 4 has refused it, or it may be missing
@@ -136,6 +155,14 @@ scaling_ok h n f = can_scale f && (not (twice h n) && (is_some (factor_of h n) &
 -- 16: a factor or a zero stands at a column of another type, is given twice or is no number; n
 unfoldable pub check16 : List ℕ → ℕ → TFormType → Outcome
 check16 h n f = cond (not (scaling_given h n) || scaling_ok h n f) accepted (refused 16 n)
+
+-- the column's numbers may stand for missing values, and the null is an integer and given once
+abbrev pub null_ok : List ℕ → ℕ → TFormType → Bool
+null_ok h n f = can_have_null f && (not (null_twice h n) && is_some (null_number h n))
+
+-- 17: a null stands at a column of another type, is given twice or is no integer; n
+unfoldable pub check17 : List ℕ → ℕ → TFormType → Outcome
+check17 h n f = cond (not (null_given h n) || null_ok h n f) accepted (refused 17 n)
 
 -- the first refusal of some checks
 unfoldable pub first_refusal : List Outcome → Outcome

@@ -1,6 +1,6 @@
 -- The entry (FORMAT.md, sections 7 to 10; the standard, 7.3.1, 7.3.2 and 7.3.5): for a header and a data area, the layout or one refusal.
 -- Assumes nothing.
-use Rattle.std.specs.Prelude.{ℕ, zero, suc, ◌+◌, ◌-◌, ◌*◌, List, [], ◌∷◌, ◌++◌, map, Bool, cond, length, replicate, eqb, leb, Option, Some, None, Result, Ok, Err}
+use Rattle.std.specs.Prelude.{ℕ, zero, suc, ◌+◌, ◌-◌, ◌*◌, ◌^◌, List, [], ◌∷◌, ◌++◌, map, Bool, cond, length, replicate, eqb, ltb, leb, ℤ, pos, negsuc, Option, Some, None, Result, Ok, Err}
 use Rattle.std.specs.Option.{unwrap_or}
 use Rattle.card.specs.declared.Value.{Value}
 use Rattle.card.specs.declared.Value.TheVariants.{Integer, String}
@@ -17,11 +17,13 @@ use Rattle.tform.specs.declared.TForm.{TForm}
 use Rattle.tform.specs.Form.{form_of}
 use Rattle.layout.specs.declared.Name.{Name}
 use Rattle.layout.specs.declared.Scaling.{Scaling}
+use Rattle.layout.specs.declared.Null.{Null}
+use Rattle.layout.specs.declared.Null.TheVariants as N
 use Rattle.layout.specs.declared.Column.{Column}
 use Rattle.layout.specs.declared.BinTable.{BinTable}
 use Rattle.layout.specs.Layout.{naxis1_limit, naxis2_limit, pcount_limit, tfields_limit, no_scaling, no_column, empty_layout, column_bytes, row_bytes, columns_of, data_size}
-use Rattle.bintable.specs.Checks.{is_integer, is_string, not_negative, size_in, within, text_in, value_at, record_for, size_for, tform_of, ttype_of, scaling_given, factor_of, zero_of}
-use Rattle.bintable.specs.Checks.{check4, check5, check6, check7, check8, check16, first_refusal}
+use Rattle.bintable.specs.Checks.{is_integer, is_string, not_negative, size_in, within, text_in, value_at, record_for, size_for, tform_of, ttype_of, scaling_given, factor_of, zero_of, null_number}
+use Rattle.bintable.specs.Checks.{check4, check5, check6, check7, check8, check16, check17, first_refusal}
 
 -- ---- the nine names
 
@@ -74,11 +76,12 @@ abbrev pub count_in : Option TForm → ℕ
 count_in (Some f) = f.count
 count_in None = 0
 
--- TFORMn by 4, 5 and 8; then TTYPEn, which may be missing, by 5; then TSCALn and TZEROn, which may be missing, by 16
+-- TFORMn by 4, 5 and 8; then TTYPEn by 5, TSCALn and TZEROn by 16, and TNULLn by 17, all of which may be missing
 unfoldable pub column_check : List ℕ → ℕ → Outcome
 column_check h n =
     let r = tform_of h n in let t = ttype_of h n in let f = form_for h n in
-    first_refusal (check4 n r ∷ check5 (is_string (value_at h r)) r ∷ check8 n f ∷ check5 (is_string (value_at h t)) t ∷ check16 h n (type_in f) ∷ [])
+    first_refusal (check4 n r ∷ check5 (is_string (value_at h r)) r ∷ check8 n f ∷ check5 (is_string (value_at h t)) t
+    ∷ check16 h n (type_in f) ∷ check17 h n (type_in f) ∷ [])
 
 -- the columns from 1 to `many`
 unfoldable pub column_checks : List ℕ → ℕ → Outcome
@@ -94,6 +97,20 @@ name_in None = None
 unfoldable pub scaling_of : List ℕ → ℕ → Scaling
 scaling_of h n = record { factor = unwrap_or (factor_of h n) no_scaling.factor; zero = unwrap_or (zero_of h n) no_scaling.zero }
 
+-- an integer that 64 bits with a sign hold
+abbrev pub fits_64_bits : ℤ → Bool
+fits_64_bits (pos n) = ltb n (2 ^ 63)
+fits_64_bits (negsuc n) = ltb n (2 ^ 63)
+
+-- the null that the integer of TNULLn gives. One outside these bits is none of a column's stored numbers
+abbrev pub null_from : Option ℤ → Null
+null_from (Some z) = cond (fits_64_bits z) (N.Number z) N.OutOfRange
+null_from None = N.NotGiven
+
+-- the null of column n; in a header that 17 refuses what is no integer reads as if it were missing
+unfoldable pub null_of : List ℕ → ℕ → Null
+null_of h n = null_from (null_number h n)
+
 -- column n, which starts at byte `at` of a row
 abbrev pub column_at : List ℕ → ℕ → ℕ → Column
 column_at h n at =
@@ -104,6 +121,7 @@ column_at h n at =
       name = name_in (value_at h (ttype_of h n));
       scaling_given = scaling_given h n;
       scaling = scaling_of h n;
+      null = null_of h n;
     }
 
 -- as many columns as `many`, from column n, which starts at byte `at`: each other one starts where the one before ends

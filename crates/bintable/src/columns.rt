@@ -94,6 +94,7 @@ impl<'a> Indexed<'a> {
         let tform = check8(i + 1, tform::parse_tform(form.text()))?;
         name.check5(name.is_string())?;
         let scaling = self.read_scaling(i, tform.form)?;
+        let null = self.read_null(i, tform.form)?;
         Ok(Column {
             form: tform.form,
             count: tform.count,
@@ -101,6 +102,7 @@ impl<'a> Indexed<'a> {
             name: name_in(name.value()),
             scaling_given: self.scaling_given(i),
             scaling,
+            null,
         })
     }
 

@@ -3,6 +3,7 @@
 
 mod columns;
 mod keywords;
+mod null;
 mod record;
 mod scaling;
 

@@ -1,7 +1,7 @@
 // The record of a used name with its value, and the checks of both, each by its number in docs/FORMAT.md, section 10.
 ghost use Rattle.std.specs.Prelude.{◌≡◌, take, drop};
 ghost use Rattle.refusal.specs.Refusal.{outcome_of};
-ghost use Rattle.bintable.specs.Checks.{is_integer, is_string, not_negative, size_in, within, text_in, value_at, real_or};
+ghost use Rattle.bintable.specs.Checks.{is_integer, is_string, not_negative, size_in, within, text_in, value_at, real_or, wide_at};
 ghost use Rattle.bintable.specs.Checks.{check4, check5, check6, check7};
 
 use card::Value;
@@ -110,6 +110,13 @@ impl<'a> KeywordRecord<'a> {
             Some(record) => real::parse(self.header, record),
             None => Some(missing),
         }
+    }
+
+    // The integer of the record, of 19 digits at most.
+    pub fn wide(&self) -> Option<i128>
+        ensures { result ≡ wide_at self.now.header.now self.now.number }
+    {
+        card::parse_wide(self.header, self.number?)
     }
 
     pub fn check4(&self, n: usize) -> Result<(), Refusal>

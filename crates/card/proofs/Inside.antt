@@ -1,44 +1,32 @@
 -- A string lies within the header, for callers that cut it out.
 -- Assumes nothing.
-use Rattle.std.specs.Prelude.{Some, None}
+use Rattle.std.specs.Prelude.{Option, Some, None}
 use mathlib.Core.Path.{◌≡◌}
-use mathlib.Core.Bool.{Bool, true, false, ◌&&◌}
+use mathlib.Core.Bool.{◌&&◌}
 use mathlib.Core.List.{List, [], ◌∷◌}
 use Prim.Native.Nat.{ℕ, ◌+◌, ◌*◌, ◌/◌, ◌≤◌}
 use native.Mathlib.Omega.{arith}
 use lib.ListN.{length, take, drop, length-take, length-drop}
-use lib.Dec.{ltb, leb, eqb}
+use lib.Dec.{ltb, eqb}
 use lib.IntN.{ℤ}
-use Rattle.card.specs.declared.Value.TheVariants.{Integer, String}
-use Rattle.ascii.specs.Text.{front, space, digit, trim}
+use Rattle.card.specs.declared.Value.TheVariants.{String}
+use Rattle.ascii.specs.Text.{front, space, trim}
 use Rattle.card.specs.Ends.{follows, closing}
 use Rattle.card.specs.Record.{card_at, has_value}
-use Rattle.card.specs.Value.{digits_value, integer_value, string_value, value_from, field_value, value_of}
+use Rattle.card.specs.Value.{integer_value, as_value, string_value, value_from, field_value, value_of}
 use Rattle.ascii.proofs.Cases.{either}
 use Rattle.ascii.proofs.Front.{front_le}
 use Rattle.ascii.proofs.Spaces.{trimmed_le}
 use Rattle.card.proofs.Records.{value_below}
 
 module _ (a n : ℕ) where
-  integer_other : (z : ℤ) → Some (Integer z) ≡ Some (String a n) → ⊥
-  integer_other z e = cc
-
   none_other : None ≡ Some (String a n) → ⊥
   none_other e = cc
 
-  digits_other : (minus : Bool) (s : List ℕ) → digits_value minus s ≡ Some (String a n) → ⊥
-  unfolding digits_value
-  digits_other minus s e =
-      either (ltb 0 (front digit s) && (leb (front digit s) 18 && follows (drop (front digit s) s)))
-      (λ t. integer_other _ (rw t at e))
-      (λ t. none_other (rw t at e))
-
-  integers_other : (s : List ℕ) → integer_value s ≡ Some (String a n) → ⊥
-  unfolding integer_value
-  integers_other [] e = none_other e
-  integers_other (b ∷ bs) e =
-      either (eqb b 45) (λ t. digits_other true bs (rw t at e))
-      (λ t. either (eqb b 43) (λ u. digits_other false bs (rw (t, u) at e)) (λ u. digits_other false (b ∷ bs) (rw (t, u) at e)))
+  -- an integer is no string
+  value_other : (o : Option ℤ) → as_value o ≡ Some (String a n) → ⊥
+  value_other None e = none_other e
+  value_other (Some z) e = cc
 
   string_inside : (start : ℕ) (s : List ℕ) → string_value start s ≡ Some (String a n) → a + n ≤ start + length s
   unfolding string_value
@@ -55,7 +43,7 @@ module _ (a n : ℕ) where
   unfolding value_from
   from_inside start [] e = absurd (none_other e)
   from_inside start (b ∷ bs) e =
-      either (eqb b 39) (λ t. let h = string_inside (start + 1) bs (rw t at e) in omega arith) (λ t. absurd (integers_other (b ∷ bs) (rw t at e)))
+      either (eqb b 39) (λ t. let h = string_inside (start + 1) bs (rw t at e) in omega arith) (λ t. absurd (value_other (integer_value 18 (b ∷ bs)) (rw t at e)))
 
   field_inside : (start : ℕ) (f : List ℕ) → field_value start f ≡ Some (String a n) → a + n ≤ start + length f
   unfolding field_value

@@ -5,28 +5,27 @@ use Rattle.std.proofs.lemmas.Option.{cond_some}
 use mathlib.Core.Path.{◌≡◌, sym, ap, ◌∙◌}
 use mathlib.Core.List.{List}
 use mathlib.Core.Bool.{Bool, true, false, cond, and-false}
-use Prim.Native.Nat.{ℕ, ◌+◌, ◌-◌, ◌*◌, ◌/◌, ◌^◌, ◌≤◌, ◌<◌}
+use Prim.Native.Nat.{ℕ, ◌+◌, ◌-◌, ◌*◌, ◌/◌, ◌≤◌, ◌<◌}
 use native.Mathlib.Omega.{arith}
 use lib.ListN.{length, take, drop, length-take, length-drop}
 use lib.Dec.{eqb, ltb, leb}
 use borrow.Author.Tests.{lt-ltb, le-leb, lt-leb, eqb-true, eqb-false}
 use Rattle.ascii.specs.Number.{number}
 use Rattle.ascii.proofs.Cases.{either}
-use Rattle.ascii.proofs.Decimal.{ten_le}
 use Rattle.ascii.proofs.Parts.{part_from}
-use Rattle.ascii.proofs.Reading.{decimal_below, digits_number}
-use Rattle.card.specs.declared.Value.TheVariants.{Integer, String}
+use Rattle.ascii.proofs.Reading.{digits_number}
+use Rattle.card.specs.declared.Value.TheVariants.{String}
 use Rattle.ascii.specs.Text.{front, digit, decimal, trim}
 use Rattle.card.specs.Ends.{follows, closing}
 use Rattle.card.proofs.Closing.{closing_place}
-use Rattle.card.specs.Value.{signed, digits_value, string_value, field_value, value_of}
+use Rattle.card.specs.Value.{signed, digits_value, string_value, field_value, value_of, field_wide, wide_of}
 use Rattle.card.specs.Record.{card_at, has_value}
 use Rattle.card.proofs.Records.{value_below}
 
--- what is read of n digits, 18 at most
-module _ (s : List ℕ) (n : ℕ) (e : n ≡ front digit s) (few : n ≤ 18) where
+-- what is read of n digits, where `most` of them are allowed, 19 at most
+module _ (most : ℕ) (fit : most ≤ 19) (s : List ℕ) (n : ℕ) (e : n ≡ front digit s) (few : n ≤ most) where
   digits_read : (n ≡ 0 → ⊥) → number (take n s) ≡ Some (decimal 0 (take n s))
-  digits_read some = digits_number s n some few (omega arith)
+  digits_read some = digits_number s n some (omega arith) (omega arith)
 
   nothing : n ≡ 0 → number (take n s) ≡ None
   unfolding number
@@ -36,39 +35,34 @@ module _ (s : List ℕ) (n : ℕ) (e : n ≡ front digit s) (few : n ≤ 18) whe
   pub record Read (v : ℕ) : Type 0 where
     pub some : 0 < n
     pub is : v ≡ decimal 0 (take (front digit s) s)
-    pub small : v < 10 ^ 18
 
   pub read : (v : ℕ) → Some v ≡ number (take n s) → Read v
   read v r =
       let some : n ≡ 0 → ⊥ = λ z. let y : Some v ≡ None = r ∙ nothing z in cc in
       let y : Some v ≡ Some (decimal 0 (take n s)) = r ∙ digits_read some in
       let is : v ≡ decimal 0 (take n s) = cc in
-      record {
-        some = omega (arith, some);
-        is = is ∙ ap (λ (k : ℕ). decimal 0 (take k s)) e;
-        small = omega (arith, is, decimal_below s n (omega arith), ten_le {i = n} 18 few);
-      }
+      record { some = omega (arith, some); is = is ∙ ap (λ (k : ℕ). decimal 0 (take k s)) e }
 
   module _ (minus : Bool) where
-    pub unread : None ≡ number (take n s) → digits_value minus s ≡ None
+    pub unread : None ≡ number (take n s) → digits_value most minus s ≡ None
     unfolding digits_value
     unread r =
         either (eqb n 0)
         (λ t. let z : front digit s ≡ 0 = omega (arith, eqb-true n 0 t, e) in rw z)
         (λ t. let y : None ≡ Some (decimal 0 (take n s)) = r ∙ digits_read (λ z. eqb-false n 0 t z) in cc)
 
-    pub digits_before : follows (drop n s) ≡ false → digits_value minus s ≡ None
+    pub digits_before : follows (drop n s) ≡ false → digits_value most minus s ≡ None
     unfolding digits_value
-    digits_before f = rw (← e, f, and-false (leb n 18), and-false (ltb 0 n))
+    digits_before f = rw (← e, f, and-false (leb n most), and-false (ltb 0 n))
 
-    pub digits_say : follows (drop n s) ≡ true → (v : ℕ) → Read v → Some (Integer (signed minus v)) ≡ digits_value minus s
+    pub digits_say : follows (drop n s) ≡ true → (v : ℕ) → Read v → Some (signed minus v) ≡ digits_value most minus s
     unfolding digits_value
     digits_say f v r =
-        rw (r.is, ← e, f, le-leb n 18 few, lt-ltb 0 n r.some)
+        rw (r.is, ← e, f, le-leb n most few, lt-ltb 0 n r.some)
 
-pub digits_over : (minus : Bool) (s : List ℕ) → 18 < front digit s → digits_value minus s ≡ None
+pub digits_over : (most : ℕ) (minus : Bool) (s : List ℕ) → most < front digit s → digits_value most minus s ≡ None
 unfolding digits_value
-digits_over minus s h = rw (lt-leb (front digit s) 18 h, and-false (ltb 0 (front digit s)))
+digits_over most minus s h = rw (lt-leb (front digit s) most h, and-false (ltb 0 (front digit s)))
 
 module _ (s : List ℕ) (start : ℕ) where
   pub string_open : None ≡ closing_place s → string_value start s ≡ None
@@ -100,6 +94,15 @@ module _ (h : List ℕ) (k : ℕ) where
   unfolding value_of
   value_unreadable e =
       either (has_value (card_at h k)) (λ t. let y : None ≡ Some (drop 10 (card_at h k)) = rw t at e in cc) (λ t. rw t)
+
+  pub wide_unreadable : None ≡ field_or_none → wide_of h k ≡ None
+  unfolding wide_of
+  wide_unreadable e =
+      either (has_value (card_at h k)) (λ t. let y : None ≡ Some (drop 10 (card_at h k)) = rw t at e in cc) (λ t. rw t)
+
+  pub wide_is : (f : List ℕ) → Some f ≡ field_or_none → wide_of h k ≡ field_wide f
+  unfolding wide_of
+  wide_is f e = let t = cond_some (has_value (card_at h k)) (drop 10 (card_at h k)) f (sym e) in rw (t.0, t.1)
 
   -- the value field of a record
   pub record Field (f : List ℕ) : Type 0 where

@@ -1,3 +1,4 @@
 pub mod Ends
 pub mod Record
 pub mod Value
+pub mod Sign

@@ -10,7 +10,7 @@ mod text;
 ghost use Rattle.std.specs.Prelude.{◌≡◌, cond, ◌/◌, ltb, length, drop};
 ghost use Rattle.std.specs.Option.{option_copied};
 ghost use Rattle.card.specs.Record.{card_at, is_end, has_value, name_of};
-ghost use Rattle.card.specs.Value.{value_of};
+ghost use Rattle.card.specs.Value.{value_of, wide_of};
 
 pub use text::may_follow;
 use text::{FIELD_START, NAME_BYTES, Record};
@@ -85,4 +85,12 @@ pub fn parse_value(header: &[u8], number: usize) -> Option<Value>
 {
     let field = value_field(header, number)?;
     field::field_value(field, number * RECORD_BYTES + FIELD_START)
+}
+
+// The integer of 19 digits at most that the record's value is.
+#[tactic(auto, using(crate::proofs::Values::wide_unreadable))]
+pub fn parse_wide(header: &[u8], number: usize) -> Option<i128>
+    ensures { result ≡ wide_of header.now number }
+{
+    field::field_wide(value_field(header, number)?)
 }

@@ -13,9 +13,10 @@ use Rattle.tform.specs.declared.TFormType.{TFormType}
 use Rattle.tform.specs.declared.TFormType.TheVariants as F
 use Rattle.tform.specs.Width.{element, items, can_scale}
 use Rattle.layout.specs.declared.Column.{Column}
+use Rattle.cell.specs.declared.DataValue.{DataValue}
 use Rattle.cell.specs.declared.Field.{Field}
 use Rattle.cell.specs.declared.Field.TheVariants.{Items, Descriptor, OutsideHeap}
-use Rattle.cell.specs.Item.{width, item}
+use Rattle.cell.specs.Item.{width, raw_item, stored_number, is_null, item}
 use Rattle.cell.specs.Field.{array, field32, field64, field_by, field}
 use Rattle.cell.proofs.ScaledLaws.{is_scalable, by_letter}
 
@@ -68,7 +69,9 @@ field_suits a p column heap theap end = by_form column.form a p column.count hea
 pub items_unscaled : (column : Column) (ty : VariableArrayTy) (heap : Bool) (at n k : ℕ) (a : List ℕ) (p : ℕ)
     → Suits column.form heap (Items ty at n) → k < n → is_unscaled column.form heap ≡ true → is_scalable (item column ty a p) ≡ false
 unfolding item
-items_unscaled column ty heap at n k a p s h u = rw s.0 (by_letter column.form a p ∙ by_scale (can_scale column.form) u)
+items_unscaled column ty heap at n k a p s h u =
+    by_test (λ (v : DataValue). is_scalable v ≡ false) (is_null column.null (stored_number (raw_item ty a p))) (λ e. refl)
+    (λ e. rw s.0 (by_letter column.form a p ∙ by_scale (can_scale column.form) u))
   where
     by_scale : (t : Bool) → (not t || is_unfollowed column.form heap) ≡ true → t ≡ false
     by_scale true v = absurd (let z : n ≡ 0 = s.1 v in omega (arith, h))

@@ -15,7 +15,7 @@ use Rattle.layout.specs.declared.Column.{Column}
 use Rattle.cell.specs.declared.DataValue.{DataValue}
 use Rattle.cell.specs.declared.Field.{Field}
 use Rattle.cell.specs.declared.Field.TheVariants.{Items, Descriptor, OutsideHeap}
-use Rattle.cell.specs.Item.{width, raw_item, value_in, item, BitsKept}
+use Rattle.cell.specs.Item.{width, raw_item, stored_number, is_null, value_in, item, BitsKept}
 use Rattle.cell.specs.Field.{array, field32, field64, field_by, field}
 
 raw_kept : (ty : VariableArrayTy) (a : List ℕ) (p : ℕ) → BitsKept (raw_item ty a p)
@@ -33,7 +33,7 @@ raw_kept T.M a p = (refl, refl)
 
 -- what a column makes of a value keeps it so
 value_kept : (column : Column) (v : DataValue) → BitsKept v → BitsKept (value_in column v)
-value_kept column v h = h
+value_kept column v h = by_test BitsKept (is_null column.null (stored_number v)) (λ e. tt) (λ e. h)
 
 pub item_kept : (column : Column) (ty : VariableArrayTy) (a : List ℕ) (p : ℕ) → BitsKept (item column ty a p)
 unfolding item

@@ -10,3 +10,4 @@ pub mod ScaledLaws
 pub mod ScaledExamples
 pub mod Ranges
 pub mod Elements
+pub mod Nulls

@@ -47,6 +47,7 @@ unsigned_kept half s z = by_test BitsKept (shifts_by (pos half) s) (λ e. tt) (�
 
 -- each float of a scaled value is the float of the bits beside it, as each float of the plain value is
 pub scaled_bits : (s : Scaling) (v : DataValue) → BitsKept v → BitsKept (scaled_value s v)
+scaled_bits s D.Unset h = tt
 scaled_bits s (D.Logical v) h = tt
 scaled_bits s (D.Bit n) h = tt
 scaled_bits s (D.UnsignedByte n) h =
@@ -280,8 +281,9 @@ is_scalable (D.Float x bits) = true
 is_scalable (D.Double x bits) = true
 is_scalable _ = false
 
--- a value of another type, and a descriptor, is as in the plain reading
+-- a value of another type, an unset one, and a descriptor, is as in the plain reading
 pub same_type : (s : Scaling) (v : DataValue) → is_scalable v ≡ false → scaled_value s v ≡ v
+same_type s D.Unset e = refl
 same_type s (D.Logical v) e = refl
 same_type s (D.Bit n) e = refl
 same_type s (D.UnsignedByte n) e = absurd (true≢false e)

@@ -1,7 +1,8 @@
--- One item of the data area and its value (FORMAT.md, section 11; the standard, 7.3.3 and 5.1 to 5.3).
+-- One item of the data area and its value (FORMAT.md, section 11; the standard, 7.3.2, 7.3.3 and 5.1 to 5.3).
 -- The data area is a list of bytes. A byte past its end counts as 0; no accepted table has an item there.
 -- Assumes nothing.
-use Rattle.std.specs.Prelude.{ℕ, zero, suc, ◌+◌, ◌*◌, ◌≡◌, cond, List, get_or, eqb, Float}
+use Rattle.std.specs.Prelude.{ℕ, zero, suc, ◌+◌, ◌*◌, ◌≡◌, Bool, false, cond, List, get_or, eqb, ℤ, pos, Option, Some, None, Float}
+use Rattle.std.specs.Ordering.{int_eq}
 use Rattle.std.specs.Float.{Format, binary32, binary64}
 use Rattle.std.specs.Float.Ieee.{of_bits}
 use Rattle.std.specs.Int.{w16, w32, w64}
@@ -9,6 +10,8 @@ use Rattle.std.proofs.Common.{to_z}
 use Rattle.tform.specs.declared.VariableArrayTy.{VariableArrayTy}
 use Rattle.tform.specs.declared.VariableArrayTy.TheVariants as T
 use Rattle.tform.specs.Width.{letter_width, letter}
+use Rattle.layout.specs.declared.Null.{Null}
+use Rattle.layout.specs.declared.Null.TheVariants as N
 use Rattle.layout.specs.declared.Column.{Column}
 use Rattle.cell.specs.declared.Logical.{Logical}
 use Rattle.cell.specs.declared.Logical.TheVariants.{Yes, No, Unset, Odd}
@@ -45,10 +48,24 @@ raw_item T.C a p =
 raw_item T.M a p =
     D.ComplexDouble (of_bits binary64 (word a p 8)) (word a p 8) (of_bits binary64 (word a (p + 8) 8)) (word a (p + 8) 8)
 
--- what a column makes of a raw value: the raw value itself. Missing values will look at the column here. The scaled
--- value is made of this one (specs/Scaled)
+-- the stored number of a value of B, I, J or K, the types that may have missing values. That of B is unsigned
+abbrev pub stored_number : DataValue → Option ℤ
+stored_number (D.UnsignedByte n) = Some (pos n)
+stored_number (D.Short z) = Some z
+stored_number (D.Integer z) = Some z
+stored_number (D.Long z) = Some z
+stored_number _ = None
+
+-- whether a stored number is the null of its column
+abbrev pub is_null : Null → Option ℤ → Bool
+is_null n None = false
+is_null (N.Number m) (Some z) = int_eq m z
+is_null _ (Some z) = false
+
+-- what a column makes of a raw value: the request's term "unset" where its stored number is the column's null, else
+-- the raw value itself. The scaled value is made of this one (specs/Scaled)
 abbrev pub value_in : Column → DataValue → DataValue
-value_in column raw = raw
+value_in column raw = cond (is_null column.null (stored_number raw)) D.Unset raw
 
 -- the value of the item of a column at place p
 unfoldable pub item : Column → VariableArrayTy → List ℕ → ℕ → DataValue
@@ -59,6 +76,7 @@ abbrev pub OfBits : Format → Float → ℕ → Type 0
 OfBits f v bits = v ≡ of_bits f bits
 
 abbrev pub BitsKept : DataValue → Type 0
+BitsKept D.Unset = Unit {0}
 BitsKept (D.Logical v) = Unit {0}
 BitsKept (D.Bit v) = Unit {0}
 BitsKept (D.UnsignedByte v) = Unit {0}

@@ -28,8 +28,9 @@ shifts_by z s = eq s.factor float_one && eq s.zero (of_int binary64 z)
 abbrev pub unsigned_or : ℕ → Scaling → ℤ → DataValue
 unsigned_or half s z = cond (shifts_by (pos half) s) (D.UnsignedLong (nat_abs (z +ℤ pos half))) (scaled_whole s z)
 
--- the scaled value of a plain value. A value of another type, or a descriptor, is as in the plain reading
+-- the scaled value of a plain value. A value of another type, an unset one, or a descriptor, is as in the plain reading
 abbrev pub scaled_value : Scaling → DataValue → DataValue
+scaled_value s D.Unset = D.Unset
 scaled_value s (D.Logical v) = D.Logical v
 scaled_value s (D.Bit n) = D.Bit n
 scaled_value s (D.UnsignedByte n) =

@@ -34,8 +34,9 @@ logical_byte L.No = 70
 logical_byte L.Unset = 0
 logical_byte (L.Odd b) = b
 
--- the words of a value's bits
+-- the words of a value's bits; an unset one has none
 abbrev pub words : DataValue → List ℕ
+words D.Unset = []
 words (D.Logical v) = logical_byte v ∷ []
 words (D.Bit b) = b ∷ []
 words (D.UnsignedByte b) = b ∷ []

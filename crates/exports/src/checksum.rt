@@ -40,6 +40,7 @@ fn add_value(sum: u32, value: DataValue) -> u32
     ensures { result ≡ add_words sum (words value) }
 {
     match value {
+        DataValue::Unset => sum,
         DataValue::Logical(logical) => add_word(sum, logical_byte(logical) as u64),
         DataValue::Bit(byte) | DataValue::UnsignedByte(byte) | DataValue::Character(byte) => {
             add_word(sum, byte as u64)

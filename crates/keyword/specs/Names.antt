@@ -55,7 +55,7 @@ unfoldable pub once_roots : List (List ℕ)
 once_roots = bytes "TFORM" ∷ bytes "TTYPE" ∷ []
 
 unfoldable pub other_roots : List (List ℕ)
-other_roots = bytes "TSCAL" ∷ bytes "TZERO" ∷ []
+other_roots = bytes "TSCAL" ∷ bytes "TZERO" ∷ bytes "TNULL" ∷ []
 
 abbrev pub roots : List (List ℕ)
 roots = once_roots ++ other_roots
@@ -66,6 +66,7 @@ root_text R.Tform = bytes "TFORM"
 root_text R.Ttype = bytes "TTYPE"
 root_text R.Tscal = bytes "TSCAL"
 root_text R.Tzero = bytes "TZERO"
+root_text R.Tnull = bytes "TNULL"
 
 -- the single names, and these roots with each n up to `count`
 abbrev pub names_up_to : ℕ → List (List ℕ) → List (List ℕ)

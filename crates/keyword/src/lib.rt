@@ -70,7 +70,7 @@ const SINGLE_NAMES: [&[u8]; SINGLE] = [
 ];
 
 // The texts of the roots of the numbered names, and how long each is.
-const ROOTS: [&[u8]; 4] = [b"TFORM", b"TTYPE", b"TSCAL", b"TZERO"];
+const ROOTS: [&[u8]; 5] = [b"TFORM", b"TTYPE", b"TSCAL", b"TZERO", b"TNULL"];
 
 const ROOT_BYTES: usize = 5;
 
@@ -81,6 +81,7 @@ pub enum Root {
     Ttype,
     Tscal,
     Tzero,
+    Tnull,
 }
 
 impl Root {

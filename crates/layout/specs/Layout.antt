@@ -7,6 +7,7 @@ use Rattle.tform.specs.declared.VariableArrayTy.TheVariants.{L}
 use Rattle.tform.specs.declared.TFormType.TheVariants.{Items}
 use Rattle.tform.specs.Width.{field_bytes, count_ok}
 use Rattle.layout.specs.declared.Scaling.{Scaling}
+use Rattle.layout.specs.declared.Null.TheVariants.{NotGiven}
 use Rattle.layout.specs.declared.Column.{Column}
 use Rattle.layout.specs.declared.BinTable.{BinTable}
 
@@ -33,7 +34,16 @@ no_scaling = record { factor = fin false 1 (pos 0); zero = fin false 0 (pos 0) }
 
 -- what stands in the array of columns where there is none. No step uses its scaling
 abbrev pub no_column : Column
-no_column = record { form = Items L; count = 0; start = 0; name = None; scaling_given = false; scaling = record { factor = nan; zero = nan } }
+no_column =
+    record {
+      form = Items L;
+      count = 0;
+      start = 0;
+      name = None;
+      scaling_given = false;
+      scaling = record { factor = nan; zero = nan };
+      null = NotGiven;
+    }
 
 -- the layout beside a refusal
 abbrev pub empty_layout : BinTable

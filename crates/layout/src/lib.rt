@@ -35,6 +35,15 @@ pub struct Scaling {
     pub zero: f64,
 }
 
+// The stored number that stands for a missing value in a column (TNULLn): none, one of 64 bits with a sign, or one that
+// these do not hold, which no item is.
+#[derive(Clone, Copy)]
+pub enum Null {
+    NotGiven,
+    Number(i64),
+    OutOfRange,
+}
+
 // `count` is the number before the form's letter, `start` the column's first byte within a row. `scaling_given` tells
 // whether TSCALn or TZEROn stands in the header: a column with neither has a scaling too.
 #[derive(Clone, Copy)]
@@ -45,6 +54,7 @@ pub struct Column {
     pub name: Option<Name>,
     pub scaling_given: bool,
     pub scaling: Scaling,
+    pub null: Null,
 }
 
 // The layout of a table. Its columns are the first `tfields` of `columns`, since the library has no heap.
@@ -76,6 +86,7 @@ pub const NO_COLUMN: Column = Column {
         factor: f64::NAN,
         zero: f64::NAN,
     },
+    null: Null::NotGiven,
 };
 
 pub const EMPTY_LAYOUT: BinTable = BinTable {

@@ -11,7 +11,7 @@ ghost use Rattle.std.specs.Iterator.{at_most};
 
 use case_file::Case;
 use layout::{BinTable, Column, EMPTY_LAYOUT, TFIELDS_LIMIT};
-use shown::{Bytes, Factors, Form, Place, Stretch};
+use shown::{Bytes, Factors, Form, Missing, Place, Stretch};
 use std::{fs, io};
 
 // The longest data area of a case.
@@ -76,7 +76,7 @@ fn print_column(rt: &impl Print, number: usize, column: &Column) -> io::Result<(
     if column.scaling_given {
         print!(rt; "{}", Factors(column.scaling))?;
     }
-    println!(rt; "")
+    println!(rt; "{}", Missing(column.null))
 }
 
 #[derive(Clone, Copy)]

@@ -1,5 +1,5 @@
-// What is printed of a form, a name, a scaling, a column that was found, and a stretch of bytes.
-use layout::{Name, Scaling};
+// What is printed of a form, a name, a scaling, a null, a column that was found, and a stretch of bytes.
+use layout::{Name, Null, Scaling};
 use std::{fmt, num};
 use tform::TFormType;
 
@@ -40,6 +40,20 @@ impl fmt::Display for Factors {
         let factor = num::f64_to_bits_with_nan(factor);
         let zero = num::f64_to_bits_with_nan(zero);
         write!(f, " factor {factor} zero {zero}")
+    }
+}
+
+// The stored number that stands for a missing value, if there is one.
+#[derive(Clone, Copy)]
+pub struct Missing(pub Null);
+
+impl fmt::Display for Missing {
+    fn fmt<W: fmt::Write>(&self, f: &mut fmt::Formatter<W>) -> fmt::Result {
+        match self.0 {
+            Null::NotGiven => Ok(()),
+            Null::Number(number) => write!(f, " null {number}"),
+            Null::OutOfRange => write!(f, " null out of range"),
+        }
     }
 }
 

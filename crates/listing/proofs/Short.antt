@@ -42,6 +42,8 @@ logical_length Unset = omega arith
 logical_length (Odd b) = omega (arith, decimal_length b)
 
 pub value_length : (v : DataValue) → length (value_text v) ≤ 41
+unfolding bytes
+value_length D.Unset = omega arith
 value_length (D.Logical v) = logical_length v
 value_length (D.Bit b) = omega (arith, decimal_length b)
 value_length (D.UnsignedByte b) = omega (arith, decimal_length b)

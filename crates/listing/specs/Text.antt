@@ -33,9 +33,10 @@ logical_text No = bytes "F"
 logical_text Unset = bytes "U"
 logical_text (Odd b) = 63 ∷ decimal_text b
 
--- the value of a cell: integers and bytes in decimal, floats as their stored bits in hexadecimal, complex ones as two, a descriptor that is not followed as
--- its count and its offset
+-- the value of a cell: U for an unset one; integers and bytes in decimal, floats as their stored bits in hexadecimal, complex
+-- ones as two, a descriptor that is not followed as its count and its offset
 abbrev pub value_text : DataValue → List ℕ
+value_text D.Unset = bytes "U"
 value_text (D.Logical v) = logical_text v
 value_text (D.Bit b) = decimal_text b
 value_text (D.UnsignedByte b) = decimal_text b

@@ -44,11 +44,13 @@ impl Writer {
         self.put_hex(two, width);
     }
 
+    #[tactic(auto, unfolding(ascii::specs::Text::bytes))]
     pub(crate) fn put_value(&mut self, value: DataValue)
         requires { length self.old + 41 ≤ room }
         ensures { self.new ≡ self.old ++ value_text value }
     {
         match value {
+            DataValue::Unset => self.put(b"U"),
             DataValue::Logical(logical) => self.put_logical(logical),
             DataValue::Bit(byte) | DataValue::UnsignedByte(byte) | DataValue::Character(byte) => {
                 self.put_number(byte as u64)

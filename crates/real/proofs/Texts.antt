@@ -8,23 +8,20 @@ use borrow.Author.Tests.{ne_eqb, eqb-true}
 use Rattle.ascii.specs.Text.{front, digit}
 use Rattle.ascii.proofs.Cases.{either}
 use Rattle.ascii.proofs.Decimal.{digit_range}
+use Rattle.ascii.proofs.Front.{front_append}
 use Rattle.card.specs.Ends.{follows}
 use Rattle.real.specs.Real.{first, is_minus, after_sign, digits, after_digits, has_exponent}
 use Rattle.real.specs.Written.{Letter, letter_e, letter_d, letter_byte, Sign, no_sign, plus, minus, sign_text, negative, Digits}
 
 -- ---- digits in front of something else
 module _ (t : List ℕ) (other : digit (first t) ≡ false) where
-  front_digits : (w : List ℕ) → Digits w → front digit (w ++ t) ≡ length w
+  none : (s : List ℕ) → digit (first s) ≡ false → front digit s ≡ 0
   unfolding front
-  front_digits [] d = none t other
-    where
-      none : (t : List ℕ) → digit (first t) ≡ false → front digit t ≡ 0
-      none [] o = refl
-      none (b ∷ bs) o = rw o
-  front_digits (x ∷ w) d =
-      either (digit x)
-      (λ e. rw e (ap suc (front_digits w (let y : suc (front digit w) ≡ suc (length w) = rw e at d in omega arith))))
-      (λ e. let y : zero ≡ suc (length w) = rw e at d in absurd (omega arith))
+  none [] o = refl
+  none (b ∷ bs) o = rw o
+
+  front_digits : (w : List ℕ) → Digits w → front digit (w ++ t) ≡ length w
+  front_digits w d = front_append digit w t d (none t other)
 
   module _ (w : List ℕ) (d : Digits w) where
     pub digits_are : digits (w ++ t) ≡ w

@@ -1,14 +1,12 @@
 -- A real number as it is written: the parts of its text, the text, and the double that the parts stand for. Laws cite these.
 -- Assumes nothing.
-use Rattle.std.specs.Prelude.{◌≡◌, ℕ, ◌+◌, ◌*◌, ◌^◌, ◌<◌, List, [], ◌∷◌, ◌++◌, Bool, true, false, not, ◌&&◌, ◌||◌, cond, length, eqb, ltb, leb, Option, Some, None}
+use Rattle.std.specs.Prelude.{ℕ, ◌+◌, ◌*◌, ◌^◌, ◌<◌, List, [], ◌∷◌, ◌++◌, Bool, true, false, not, ◌&&◌, ◌||◌, cond, length, eqb, ltb, leb, Option, Some, None}
 use Rattle.std.specs.Float.{Float, nan, inf, fin, binary64}
 use Rattle.std.specs.Float.Ieee.{round}
-use Rattle.ascii.specs.Text.{front, digit, decimal}
+use Rattle.ascii.specs.Text.{decimal}
+pub use Rattle.card.specs.Sign.{Sign, no_sign, plus, minus, Digits, sign_text, negative}
 
 -- ---- the parts
-
-pub data Sign : Type 0 where
-  no_sign plus minus : Sign
 
 pub data Letter : Type 0 where
   letter_e letter_d : Letter
@@ -29,10 +27,6 @@ abbrev pub fraction_digits : Option (List ℕ) → List ℕ
 fraction_digits None = []
 fraction_digits (Some f) = f
 
--- digits and nothing else
-abbrev pub Digits : List ℕ → Type 0
-Digits s = front digit s ≡ length s
-
 -- an exponent has a digit or more
 abbrev pub ExponentDigits : Option Exponent → Type 0
 ExponentDigits None = Unit {0}
@@ -46,11 +40,6 @@ pub record IsNumber (n : Number) : Type 0 where
   pub exponent : ExponentDigits n.exponent
 
 -- ---- the text
-
-abbrev pub sign_text : Sign → List ℕ
-sign_text no_sign = []
-sign_text plus = 43 ∷ []
-sign_text minus = 45 ∷ []
 
 abbrev pub letter_byte : Letter → ℕ
 letter_byte letter_e = 69
@@ -68,11 +57,6 @@ abbrev pub text : Number → List ℕ
 text n = sign_text n.sign ++ (n.whole ++ (fraction_text n.fraction ++ exponent_text n.exponent))
 
 -- ---- the double
-
-abbrev pub negative : Sign → Bool
-negative no_sign = false
-negative plus = false
-negative minus = true
 
 -- the number without its point, sign and exponent
 abbrev pub significand : Number → ℕ

@@ -24,6 +24,7 @@ cause_back (R.ArrayOutsideHeap c) = refl
 cause_back (R.ShortList n) = refl
 cause_back R.Unsuitable = refl
 cause_back (R.InvalidScaling n) = refl
+cause_back (R.InvalidNull n) = refl
 cause_back R.BufferMismatch = refl
 
 -- the check that an outcome is

@@ -31,6 +31,7 @@ number_of (R.ArrayOutsideHeap c) = 13
 number_of (R.ShortList n) = 14
 number_of R.Unsuitable = 15
 number_of (R.InvalidScaling n) = 16
+number_of (R.InvalidNull n) = 17
 number_of R.BufferMismatch = 22
 
 abbrev pub place_of : Refusal → ℕ
@@ -50,6 +51,7 @@ place_of (R.ArrayOutsideHeap c) = c
 place_of (R.ShortList n) = n
 place_of R.Unsuitable = 0
 place_of (R.InvalidScaling n) = n
+place_of (R.InvalidNull n) = n
 place_of R.BufferMismatch = 0
 
 -- the outcome that the code's answer is, whatever it returns where nothing is refused
@@ -75,5 +77,6 @@ cause_of n p =
     (cond (eqb n 14) (R.ShortList p)
     (cond (eqb n 15) R.Unsuitable
     (cond (eqb n 16) (R.InvalidScaling p)
+    (cond (eqb n 17) (R.InvalidNull p)
     (cond (eqb n 22) R.BufferMismatch
-    R.BadLength)))))))))))))))
+    R.BadLength))))))))))))))))

@@ -33,8 +33,9 @@ pub enum Refusal {
     // What is asked for does not suit: the column is missing, not of a type that the call takes, or has a factor or a
     // zero, or there is no such edition.
     Unsuitable,
-    // That of the entry for the scaling of column n.
+    // Those of the entry for the scaling and for the null of column n.
     InvalidScaling { n: usize },
+    InvalidNull { n: usize },
     // That of turning: the two buffers differ in length, or are too short.
     BufferMismatch,
 }
@@ -71,6 +72,7 @@ pub fn number(refusal: Refusal) -> u64
         Refusal::ShortList { needed: _ } => 14,
         Refusal::Unsuitable => 15,
         Refusal::InvalidScaling { n: _ } => 16,
+        Refusal::InvalidNull { n: _ } => 17,
         Refusal::BufferMismatch => 22,
     }
 }
@@ -96,6 +98,7 @@ pub fn place(refusal: Refusal) -> u64
         Refusal::ShortList { needed } => needed,
         Refusal::Unsuitable => 0,
         Refusal::InvalidScaling { n } => n as u64,
+        Refusal::InvalidNull { n } => n as u64,
         Refusal::BufferMismatch => 0,
     }
 }

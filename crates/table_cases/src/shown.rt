@@ -20,10 +20,11 @@ impl fmt::Display for Shown<Logical> {
 }
 
 // The letter of the items that have such a value, or of the descriptor, and its numbers. Those of a float are its
-// bits.
+// bits. An unset one has no number, and a U that stands alone.
 impl fmt::Display for Shown<DataValue> {
     fn fmt<W: fmt::Write>(&self, f: &mut fmt::Formatter<W>) -> fmt::Result {
         match self.0 {
+            DataValue::Unset => write!(f, "U"),
             DataValue::Logical(logical) => write!(f, "L {}", Shown(logical)),
             DataValue::Bit(byte) => write!(f, "X {byte}"),
             DataValue::UnsignedByte(byte) => write!(f, "B {byte}"),

@@ -55,6 +55,10 @@ element (Q e) = e
 unfoldable pub can_scale : TFormType → Bool
 can_scale f = among (letter (element f)) (bytes "BIJKED")
 
+-- whether one of its numbers may stand for a missing value: they are of type B, I, J or K
+unfoldable pub can_have_null : TFormType → Bool
+can_have_null f = among (letter (element f)) (bytes "BIJK")
+
 -- the items that a count stands for: of X, which are bits, one for each byte that they take, else as many as the count
 abbrev pub items : VariableArrayTy → ℕ → ℕ
 items X n = (n + 7) / 8

@@ -4,7 +4,7 @@
 mod parsing;
 
 ghost use Rattle.std.specs.Prelude.{◌≡◌};
-ghost use Rattle.tform.specs.Width.{letter, form_letter, letter_width, can_scale, items, field_items, field_bytes};
+ghost use Rattle.tform.specs.Width.{letter, form_letter, letter_width, can_scale, can_have_null, items, field_items, field_bytes};
 ghost use Rattle.tform.specs.Width.{count_ok};
 ghost use Rattle.tform.specs.Form.{counted, form_of};
 
@@ -104,6 +104,15 @@ pub fn can_scale(form: TFormType) -> bool
 {
     let (TFormType::Items(ty) | TFormType::P(ty) | TFormType::Q(ty)) = form;
     matches!(letter(ty), b'B' | b'I' | b'J' | b'K' | b'E' | b'D')
+}
+
+// Whether one of its numbers may stand for a missing value.
+#[tactic(auto, unfolding(crate::specs::Width::can_have_null, crate::specs::Width::among, ascii::specs::Text::bytes))]
+pub fn can_have_null(form: TFormType) -> bool
+    ensures { result ≡ can_have_null form }
+{
+    let (TFormType::Items(ty) | TFormType::P(ty) | TFormType::Q(ty)) = form;
+    matches!(letter(ty), b'B' | b'I' | b'J' | b'K')
 }
 
 // How many items a count stands for: bits are eight to an item.

@@ -1,5 +1,5 @@
--- The scaling of a column of an accepted header, and what its stored numbers come to: its factor and its zero are doubles,
--- and without TSCALn, by the zero of its type, each stored number gives the exact whole number.
+-- The scaling of a column of an accepted header, and what its stored numbers come to, where they are not the column's
+-- null: its factor and its zero are doubles, and without TSCALn, by the zero of its type, each gives the exact whole number.
 -- Assumes nothing.
 use Prim.Native.Nat.{ℕ, ◌+◌, ◌<◌}
 use mathlib.Core.Path.{◌≡◌, refl}
@@ -33,7 +33,8 @@ module _ (h a : List ℕ) (l : BinTable) (taken : entry h a ≡ accepted l) (c :
   pub column_doubles : HoldsDoubles scaling
   column_doubles = let s = scaling_finite h a l taken c p in (s.0.0, s.1.0)
 
-  -- a column with a zero, in record k, and no factor, in an area of bytes: the item of its type at any place, by the text of the zero
+  -- a column with a zero, in record k, and no factor, in an area of bytes: the item of its type at any place, as its bytes
+  -- say it, by the text of the zero
   module _ (no_factor : tscal_of h (c + 1) ≡ None) (k : ℕ) (given : tzero_of h (c + 1) ≡ Some k) (r : List ℕ) (f : follows r ≡ true)
       (below : (i : ℕ) → get_or a i 0 < 256) (at : ℕ) where
     factor_is : scaling.factor ≡ float_one

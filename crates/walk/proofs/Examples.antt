@@ -14,6 +14,7 @@ use Rattle.tform.specs.declared.TFormType.TheVariants as F
 use Rattle.tform.specs.Width.{among, letter_width}
 use Rattle.layout.specs.declared.Column.{Column}
 use Rattle.layout.specs.declared.BinTable.{BinTable}
+use Rattle.layout.specs.declared.Null.TheVariants.{NotGiven}
 use Rattle.layout.specs.Layout.{no_scaling, no_column, columns_ok, layout_ok}
 use Rattle.cell.specs.declared.Logical.TheVariants.{Yes, No, Unset, Odd}
 use Rattle.cell.specs.declared.DataValue.TheVariants as D
@@ -26,7 +27,7 @@ use Rattle.walk.specs.Walk.{Step, read_cell, read_row, seek, Reply, got_cell, go
 use Rattle.walk.specs.Step.{Selection, all_columns, listed, fits, choice_ok, belongs, cursor_at, choice_from, choice_of, opened, not_opened, open_with, StepResult, cursor_step, run}
 
 abbrev column : TFormType → ℕ → ℕ → Column
-column f n at = record { form = f; count = n; start = at; name = None; scaling_given = false; scaling = no_scaling }
+column f n at = record { form = f; count = n; start = at; name = None; scaling_given = false; scaling = no_scaling; null = NotGiven }
 
 -- the answers of some steps from an opened cursor
 pub answers : BinTable → List ℕ → Selection → Bool → List Step → List Reply

@@ -27,9 +27,10 @@ use Rattle.tform.specs.Width.{among, letter_width}
 use Rattle.tform.specs.Form.{repeat_count, element_among, element_of, first_element, kind_of, form_of}
 use Rattle.layout.specs.declared.Column.{Column}
 use Rattle.layout.specs.declared.BinTable.{BinTable}
+use Rattle.layout.specs.declared.Null.TheVariants.{NotGiven}
 use Rattle.layout.specs.Layout.{no_scaling, no_column, column_bytes, row_bytes, columns_ok, layout_ok}
-use Rattle.bintable.specs.Checks.{check16, scaling_given, first_refusal}
-use Rattle.bintable.specs.Entry.{scaling_of, required, limited, theap_check, nine, nine_checks, column_check, column_checks, columns_from, layout_of, check9, check10, header_checks, all_checks, accepted, entry}
+use Rattle.bintable.specs.Checks.{check16, check17, scaling_given, first_refusal}
+use Rattle.bintable.specs.Entry.{scaling_of, null_of, required, limited, theap_check, nine, nine_checks, column_check, column_checks, columns_from, layout_of, check9, check10, header_checks, all_checks, accepted, entry}
 use Rattle.std.specs.Float.{binary64}
 use Rattle.std.specs.Float.Ieee.{add, mul, eq, of_int, of_bits, to_bits, round}
 use Rattle.cell.specs.Scaled.{shifts_by}
@@ -47,7 +48,7 @@ use Rattle.walk.proofs.Isolation.{isolation}
 use Rattle.walk.proofs.Together.{padded}
 
 abbrev column : TFormType → ℕ → Column
-column f at = record { form = f; count = 1; start = at; name = None; scaling_given = false; scaling = no_scaling }
+column f at = record { form = f; count = 1; start = at; name = None; scaling_given = false; scaling = no_scaling; null = NotGiven }
 
 -- two rows of a descriptor `1PB` and an `1I`, four bytes before the heap, and six in it
 abbrev pub table : BinTable
@@ -132,7 +133,7 @@ header =
     ++ replicate (24 * 80) 32
 
 pub both_accepted : (entry header area_a ≡ accepted table) × (entry header area_b ≡ accepted table)
-unfolding header padded bytes same front spaces trim follows decimal closing card_at is_end has_value name_of digits_value integer_value string_value value_from field_value value_of range numeral indexed single once_roots once_names flat_map position records has_end before_end names repeated_after bad_length check1 check2 check3 checked names_read among letter_width repeat_count element_among element_of first_element kind_of form_of row_bytes first_refusal required limited theap_check nine nine_checks check16 scaling_given scaling_of column_check column_checks columns_from layout_of check9 check10 header_checks all_checks
+unfolding header padded bytes same front spaces trim follows decimal closing card_at is_end has_value name_of digits_value integer_value string_value value_from field_value value_of range numeral indexed single once_roots once_names flat_map position records has_end before_end names repeated_after bad_length check1 check2 check3 checked names_read among letter_width repeat_count element_among element_of first_element kind_of form_of row_bytes first_refusal required limited theap_check nine nine_checks check16 scaling_given scaling_of check17 null_of column_check column_checks columns_from layout_of check9 check10 header_checks all_checks
 both_accepted = (refl, refl)
 
 -- the choice of column 0, of a column that is repeated, and of one that is unknown

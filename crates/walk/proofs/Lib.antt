@@ -18,3 +18,6 @@ pub mod Readings
 pub mod Unscaled
 pub mod ColumnScaling
 pub mod ScaledTables
+pub mod WithoutNulls
+pub mod ColumnNulls
+pub mod NullTables

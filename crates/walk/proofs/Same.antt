@@ -20,7 +20,7 @@ use Rattle.cell.proofs.Same.{item_same, field_same}
 use Rattle.walk.specs.Plain.{column_of, field_at, field_of, chosen, cells, item_at, entries_of, column_entries, columns_entries, row_entries}
 use Rattle.walk.specs.Agree.{SameItems, Agree}
 
-cells_same : (r c : ℕ) (v w : ℕ → DataValue) (i n : ℕ) → ((j : ℕ) → j < i + n → v j ≡ w j) → cells r c v i n ≡ cells r c w i n
+pub cells_same : (r c : ℕ) (v w : ℕ → DataValue) (i n : ℕ) → ((j : ℕ) → j < i + n → v j ≡ w j) → cells r c v i n ≡ cells r c w i n
 unfolding cells
 cells_same r c v w i zero h = refl
 cells_same r c v w i (suc n) h = rw (h i (omega arith), cells_same r c v w (suc i) n (λ j u. h j (omega arith)))

@@ -21,9 +21,10 @@ use Rattle.tform.specs.Width.{among, letter_width}
 use Rattle.tform.specs.Form.{repeat_count, element_among, element_of, first_element, kind_of, form_of}
 use Rattle.tform.proofs.Examples.{Size, takes, bad, size_of}
 use Rattle.layout.specs.declared.BinTable.{BinTable}
+use Rattle.layout.specs.declared.Null.TheVariants.{NotGiven}
 use Rattle.layout.specs.Layout.{no_scaling, no_column, row_bytes, columns_ok, layout_ok}
-use Rattle.bintable.specs.Checks.{check16, scaling_given, first_refusal}
-use Rattle.bintable.specs.Entry.{scaling_of, required, limited, theap_check, nine, nine_checks, column_check, column_checks, columns_from, layout_of, check9, check10, header_checks, all_checks, accepted, entry}
+use Rattle.bintable.specs.Checks.{check16, check17, scaling_given, first_refusal}
+use Rattle.bintable.specs.Entry.{scaling_of, null_of, required, limited, theap_check, nine, nine_checks, column_check, column_checks, columns_from, layout_of, check9, check10, header_checks, all_checks, accepted, entry}
 unfoldable pub use Rattle.bintable.proofs.ScaledHeaders.{padded}
 use Rattle.cell.specs.declared.DataValue.TheVariants as D
 use Rattle.cell.specs.declared.Cell.{Cell}
@@ -70,13 +71,13 @@ table =
       theap = 12;
       tfields = 2;
       columns =
-          record { form = F.Items T.I; count = 1; start = 0; name = Some (record { start = 731; len = 3 }); scaling_given = false; scaling = no_scaling }
-          ∷ record { form = F.Items T.J; count = 1; start = 2; name = Some (record { start = 891; len = 2 }); scaling_given = false; scaling = no_scaling }
+          record { form = F.Items T.I; count = 1; start = 0; name = Some (record { start = 731; len = 3 }); scaling_given = false; scaling = no_scaling; null = NotGiven }
+          ∷ record { form = F.Items T.J; count = 1; start = 2; name = Some (record { start = 891; len = 2 }); scaling_given = false; scaling = no_scaling; null = NotGiven }
           ∷ replicate 62 no_column;
     }
 
 pub enters : entry header area ≡ accepted table
-unfolding header table padded bytes same front spaces trim follows decimal closing card_at is_end has_value name_of digits_value integer_value string_value value_from field_value value_of range numeral indexed single once_roots once_names flat_map position records has_end before_end names repeated_after bad_length check1 check2 check3 checked names_read among letter_width repeat_count element_among element_of first_element kind_of form_of row_bytes first_refusal required limited theap_check nine nine_checks check16 scaling_given scaling_of column_check column_checks columns_from layout_of check9 check10 header_checks all_checks
+unfolding header table padded bytes same front spaces trim follows decimal closing card_at is_end has_value name_of digits_value integer_value string_value value_from field_value value_of range numeral indexed single once_roots once_names flat_map position records has_end before_end names repeated_after bad_length check1 check2 check3 checked names_read among letter_width repeat_count element_among element_of first_element kind_of form_of row_bytes first_refusal required limited theap_check nine nine_checks check16 scaling_given scaling_of check17 null_of column_check column_checks columns_from layout_of check9 check10 header_checks all_checks
 enters = refl
 
 -- the cursor on all columns with the heap on

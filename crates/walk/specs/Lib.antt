@@ -4,3 +4,5 @@ pub mod Step
 pub mod Agree
 pub mod Scaled
 pub mod Readings
+pub mod Stored
+pub mod Nulls

@@ -164,6 +164,16 @@ scaling_text place =
     ∷ codes "has no scaling: those of B, I, J, K, E and D have one"
     ∷ [])
 
+-- 17
+abbrev pub null_text : List ℕ → List ℕ
+null_text place =
+    concat
+    (codes "TNULL"
+    ∷ place
+    ∷ codes " is not an integer of at most 19 digits, is given twice, or stands at a column whose type "
+    ∷ codes "has no missing values: those of B, I, J and K have them"
+    ∷ [])
+
 -- what refused the table, with its place as text
 abbrev pub cause_text : List ℕ → Refusal → List ℕ → List ℕ
 cause_text place R.BadLength file = length_text file
@@ -184,6 +194,7 @@ cause_text place (R.ArrayOutsideHeap c) file = array_text place
 cause_text place (R.ShortList n) file = list_text place
 cause_text place R.Unsuitable file = unsuitable_text
 cause_text place (R.InvalidScaling n) file = scaling_text place
+cause_text place (R.InvalidNull n) file = null_text place
 cause_text place R.BufferMismatch file = codes "the two buffers differ in length, or are shorter than the table"
 
 -- what follows 1 to 4 of a file that begins as a whole FITS file does

@@ -21,6 +21,10 @@ const NO_SUITABLE_COLUMN: &[u8] = b"the column is missing, not of a type that is
 const BAD_SCALING: &[u8] = b" is not a number that this reader takes, is given twice, \
     or stands at a column whose type has no scaling: those of B, I, J, K, E and D have one";
 
+// What is no null, after its keyword.
+const BAD_NULL: &[u8] = b" is not an integer of at most 19 digits, is given twice, \
+    or stands at a column whose type has no missing values: those of B, I, J and K have them";
+
 // A text of one piece.
 fn one(text: &[u8]) -> [&[u8]; CAUSE_PIECES]
     ensures { concat (map (λ p. p.now) result) ≡ text.now }
@@ -99,6 +103,7 @@ pub fn cause<'a>(refusal: Refusal, file: &'a [u8], place: &'a [u8]) -> [&'a [u8]
         ),
         Refusal::Unsuitable => one(NO_SUITABLE_COLUMN),
         Refusal::InvalidScaling { n: _ } => scaling(place),
+        Refusal::InvalidNull { n: _ } => three(b"TNULL", place, BAD_NULL),
         Refusal::BufferMismatch => {
             one(b"the two buffers differ in length, or are shorter than the table")
         }

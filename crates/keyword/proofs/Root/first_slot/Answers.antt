@@ -14,6 +14,7 @@ named R.Tform k h = rooted_name 0 k (omega arith) h
 named R.Ttype k h = rooted_name 1 k (omega arith) h
 named R.Tscal k h = rooted_name 2 k (omega arith) h
 named R.Tzero k h = rooted_name 3 k (omega arith) h
+named R.Tnull k h = rooted_name 4 k (omega arith) h
 
 inside : (r : Root) → 9 + tag_of the_type r * column_slots + column_slots ≤ length slot_names
 unfolding single once_roots other_roots
@@ -21,6 +22,7 @@ inside R.Tform = omega (arith, slots_length)
 inside R.Ttype = omega (arith, slots_length)
 inside R.Tscal = omega (arith, slots_length)
 inside R.Tzero = omega (arith, slots_length)
+inside R.Tnull = omega (arith, slots_length)
 
 pub returns-clause-names : goal.returns-clause-names
 returns-clause-names c = named c.args.self
