@@ -9,13 +9,12 @@ use mathlib.Core.Bool.{Bool, true, false}
 use lib.Dec.{eqb, leb}
 use mathlib.Core.List.{List}
 use lib.IntN.{ℤ, pos, neg_ℤ}
-use Rattle.ascii.specs.Text.{bytes}
 use Rattle.ascii.proofs.Cases.{by_test, either}
 use Rattle.tform.specs.declared.VariableArrayTy.{VariableArrayTy}
 use Rattle.tform.specs.declared.VariableArrayTy.TheVariants as T
 use Rattle.tform.specs.declared.TFormType.{TFormType}
 use Rattle.tform.specs.declared.TFormType.TheVariants as F
-use Rattle.tform.specs.Width.{among, element, items, can_have_null}
+use Rattle.tform.specs.Width.{element, items, can_have_null}
 use Rattle.layout.specs.declared.Null.{Null}
 use Rattle.layout.specs.declared.Null.TheVariants as N
 use Rattle.layout.specs.declared.Scaling.{Scaling}
@@ -27,29 +26,16 @@ use Rattle.cell.specs.declared.Field.TheVariants.{Items, Descriptor, OutsideHeap
 use Rattle.cell.specs.Field.{array, field32, field64, field_by, field}
 use Rattle.cell.specs.Item.{width, raw_item, stored_number, is_null, item}
 use Rattle.cell.specs.Scaled.{shifts_by, unsigned_or, scaled_value}
+use Rattle.cell.proofs.ScaledLaws.{by_type}
 
 -- ---- the types
-
-by_type : (ty : VariableArrayTy) (a : List ℕ) (p : ℕ) → is_some (stored_number (raw_item ty a p)) ≡ can_have_null (F.Items ty)
-unfolding can_have_null among bytes
-by_type T.L a p = refl
-by_type T.X a p = refl
-by_type T.B a p = refl
-by_type T.I a p = refl
-by_type T.J a p = refl
-by_type T.K a p = refl
-by_type T.A a p = refl
-by_type T.E a p = refl
-by_type T.D a p = refl
-by_type T.C a p = refl
-by_type T.M a p = refl
 
 -- the items of a column, and of its arrays, have a stored number just where they may be unset: of type B, I, J or K
 pub has_number : (f : TFormType) (a : List ℕ) (p : ℕ) → is_some (stored_number (raw_item (element f) a p)) ≡ can_have_null f
 unfolding can_have_null
-has_number (F.Items ty) a p = by_type ty a p
-has_number (F.P ty) a p = by_type ty a p
-has_number (F.Q ty) a p = by_type ty a p
+has_number (F.Items ty) a p = (by_type ty a p).1
+has_number (F.P ty) a p = (by_type ty a p).1
+has_number (F.Q ty) a p = (by_type ty a p).1
 
 -- ---- the items
 

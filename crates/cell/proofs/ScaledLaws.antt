@@ -1,5 +1,5 @@
 -- Scaled values: each double stands beside its bits, the type's own zero with the factor 1 gives exact whole numbers, and the
--- type of a value alone tells whether it is scaled.
+-- type of a value alone tells whether it is scaled and whether it has a stored number.
 -- Assumes nothing.
 use Prim.Native.Nat.{ℕ, zero, suc, ◌+◌, ◌-◌, ◌*◌, ◌^◌, ◌<◌}
 use mathlib.Core.Path.{◌≡◌, refl, sym, ap, subst, ◌∙◌}
@@ -17,7 +17,7 @@ use lib.Pow.{pow_pos}
 use native.Mathlib.Nat.{mul-pos}
 use lib.Signed.{mag}
 use borrow.Author.Tests.{ltb-true, ltb-false, eqb-true, le-ltb, eq-eqb, ne_eqb}
-use Rattle.std.specs.Prelude.{FitsSigned}
+use Rattle.std.specs.Prelude.{FitsSigned, is_some}
 use Rattle.std.specs.Int.{Width, w8, w16, w32, w64}
 use Rattle.std.specs.Float.{float_one}
 use Rattle.ascii.specs.Text.{bytes}
@@ -27,10 +27,10 @@ use Rattle.tform.specs.declared.VariableArrayTy.{VariableArrayTy}
 use Rattle.tform.specs.declared.VariableArrayTy.TheVariants as T
 use Rattle.tform.specs.declared.TFormType.{TFormType}
 use Rattle.tform.specs.declared.TFormType.TheVariants as F
-use Rattle.tform.specs.Width.{among, element, can_scale}
+use Rattle.tform.specs.Width.{among, element, can_scale, can_have_null}
 use Rattle.cell.specs.declared.DataValue.{DataValue}
 use Rattle.cell.specs.declared.DataValue.TheVariants as D
-use Rattle.cell.specs.Item.{BitsKept, raw_item}
+use Rattle.cell.specs.Item.{BitsKept, raw_item, stored_number}
 use Rattle.cell.specs.Scaled.{double_of, scaled_whole, shifts_by, unsigned_or, scaled_value}
 
 -- ---- bits
@@ -299,23 +299,25 @@ same_type s (D.ComplexDouble x b y c) e = refl
 same_type s (D.VariableLengthArray32 n o) e = refl
 same_type s (D.VariableLengthArray64 n o) e = refl
 
-by_type : (ty : VariableArrayTy) (a : List ℕ) (p : ℕ) → is_scalable (raw_item ty a p) ≡ can_scale (F.Items ty)
-unfolding can_scale among bytes
-by_type T.L a p = refl
-by_type T.X a p = refl
-by_type T.B a p = refl
-by_type T.I a p = refl
-by_type T.J a p = refl
-by_type T.K a p = refl
-by_type T.A a p = refl
-by_type T.E a p = refl
-by_type T.D a p = refl
-by_type T.C a p = refl
-by_type T.M a p = refl
+-- for each type: its items are scaled where its numbers may be, and have a stored number where they may be unset
+pub by_type : (ty : VariableArrayTy) (a : List ℕ) (p : ℕ) → let v = raw_item ty a p in
+    (is_scalable v ≡ can_scale (F.Items ty)) × (is_some (stored_number v) ≡ can_have_null (F.Items ty))
+unfolding can_scale can_have_null among bytes
+by_type T.L a p = (refl, refl)
+by_type T.X a p = (refl, refl)
+by_type T.B a p = (refl, refl)
+by_type T.I a p = (refl, refl)
+by_type T.J a p = (refl, refl)
+by_type T.K a p = (refl, refl)
+by_type T.A a p = (refl, refl)
+by_type T.E a p = (refl, refl)
+by_type T.D a p = (refl, refl)
+by_type T.C a p = (refl, refl)
+by_type T.M a p = (refl, refl)
 
 -- the items of a column, and of its arrays, are of such a type just where the column's numbers may be scaled
 pub by_letter : (f : TFormType) (a : List ℕ) (p : ℕ) → is_scalable (raw_item (element f) a p) ≡ can_scale f
 unfolding can_scale
-by_letter (F.Items ty) a p = by_type ty a p
-by_letter (F.P ty) a p = by_type ty a p
-by_letter (F.Q ty) a p = by_type ty a p
+by_letter (F.Items ty) a p = (by_type ty a p).0
+by_letter (F.P ty) a p = (by_type ty a p).0
+by_letter (F.Q ty) a p = (by_type ty a p).0
