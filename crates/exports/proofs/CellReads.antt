@@ -24,7 +24,7 @@ use Rattle.walk.specs.Readings.{scaled_reply, in_result}
 use Rattle.walk.proofs.Readings.{step_in}
 use Rattle.walk.specs.Walk.{read_cell, Reply, got_cell, got_row, sought, at_end, refused, entries_from, entries_left}
 use Rattle.walk.specs.Step.{StepResult, belongs, cursor_left, cursor_step, cell_reply, cell_result}
-use Rattle.walk.proofs.InOrder.{ReadLeft, read_left}
+use Rattle.walk.proofs.InOrder.{ReadLeft, read_left, entries_scaled}
 use Rattle.exports.specs.Checksum.{add_cell, add_cells, with_number}
 use Rattle.exports.specs.Reads.{CellsRead, ended, and_then, cell_reads}
 use Rattle.exports.specs.Loops.{rows_in, cells_from, sum_then, number_in}
@@ -48,16 +48,12 @@ none_left l a m o (Ok None) d k h = h
 none_left l a m o (Err q) d k h = h
 
 -- the entries that are left of the rows in the second reading are the plain ones, scaled
-module _ (l : BinTable) (rows : ℕ → List Entry) (n : ℕ) where
-  from_scaled : (r k : ℕ) → entries_from (in_reading l Scaled rows) n r k ≡ map (scaled_entry l) (entries_from rows n r k)
-  unfolding entries_from
-  from_scaled r zero = refl
-  from_scaled r (suc k) = rw (from_scaled (suc r) k, map-append (scaled_entry l) (rows r) (entries_from rows n (suc r) k))
-
-  left_scaled : (k r p : ℕ) → entries_left (in_reading l Scaled rows) n k r p ≡ map (scaled_entry l) (entries_left rows n k r p)
-  left_scaled zero r p = refl
-  left_scaled (suc k) r p =
-      rw (drop-map (scaled_entry l) p (rows r), from_scaled (suc r) k, map-append (scaled_entry l) (drop p (rows r)) (entries_from rows n (suc r) k))
+left_scaled : (l : BinTable) (rows : ℕ → List Entry) (n k r p : ℕ)
+    → entries_left (in_reading l Scaled rows) n k r p ≡ map (scaled_entry l) (entries_left rows n k r p)
+left_scaled l rows n zero r p = refl
+left_scaled l rows n (suc k) r p =
+    let rest = map-append (scaled_entry l) (drop p (rows r)) (entries_from rows n (suc r) k) in
+    rw (drop-map (scaled_entry l) p (rows r), entries_scaled l rows n (suc r) k, rest)
 
 module _ (l : BinTable) (a : List ℕ) (c : TableData) where
   -- those from a cursor on

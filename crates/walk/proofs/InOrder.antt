@@ -99,14 +99,15 @@ module _ (l : BinTable) (how : How) (rows : ℕ → List Entry) (n : ℕ) where
       let e : n - 0 ≡ n = omega arith in
       reads m start ∙ ap (answers_to m) (left_start seen n (n - 0) 0 ∙ rw e)
 
--- those of scaled reads are the plain entries, scaled
-entries_scaled : (l : BinTable) (rows : ℕ → List Entry) (n r k : ℕ)
+-- the entries of the rows in the second reading are the plain ones, scaled
+pub entries_scaled : (l : BinTable) (rows : ℕ → List Entry) (n r k : ℕ)
     → entries_from (in_reading l Scaled rows) n r k ≡ map (scaled_entry l) (entries_from rows n r k)
 unfolding entries_from
 entries_scaled l rows n r zero = refl
 entries_scaled l rows n r (suc k) =
     rw (entries_scaled l rows n (suc r) k, map-append (scaled_entry l) (rows r) (entries_from rows n (suc r) k))
 
+-- any number of scaled cell reads from the start
 pub scaled_reads : (l : BinTable) (rows : ℕ → List Entry) (n m : ℕ)
     → replies_from l scaled rows n m start ≡ answers_to m (map (scaled_entry l) (entries_from rows n 0 n))
 scaled_reads l rows n m = cell_reads l scaled rows n m ∙ ap (answers_to m) (entries_scaled l rows n 0 n)
