@@ -6,6 +6,7 @@ pub mod Filled
 pub mod Entered
 pub mod Kept
 pub mod OwnNames
+pub mod Unused
 pub mod BadForm
 pub mod Empty
 pub mod Scaled
@@ -15,3 +16,4 @@ pub mod NullRecords
 pub mod TypeZeros
 pub mod ScaledHeaders
 pub mod NullHeaders
+pub mod UnusedHeaders

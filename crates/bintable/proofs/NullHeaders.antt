@@ -31,7 +31,7 @@ use Rattle.layout.specs.declared.BinTable.{BinTable}
 use Rattle.layout.specs.Layout.{no_scaling, no_column, row_bytes}
 use Rattle.bintable.specs.Checks.{scaling_given, twice, check16, check17, first_refusal}
 use Rattle.bintable.specs.Entry.{scaling_of, null_of, required, limited, theap_check, nine, nine_checks, column_check, column_checks, columns_from, layout_of, check9, check10, header_checks, all_checks, accepted, refused, entry}
-use Rattle.bintable.proofs.ScaledHeaders.{padded}
+use Rattle.header.proofs.Padded.{padded}
 
 -- ---- nulls
 

@@ -26,7 +26,8 @@ use Rattle.bintable.specs.Entry.{form_for, type_in, column_check, column_at, fit
 use Rattle.bintable.specs.Entry as E
 use Rattle.bintable.proofs.Bounds.{first_accepted}
 use Rattle.bintable.proofs.Kept.{passes, entry_columns}
-use Rattle.bintable.proofs.Scaled.{not_found, not_true, one_passes, column_is, inside}
+use Rattle.header.proofs.Becomes.{not_found}
+use Rattle.bintable.proofs.Scaled.{not_true, one_passes, column_is, inside}
 
 -- ---- which numbers the null is
 

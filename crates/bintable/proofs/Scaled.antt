@@ -15,6 +15,7 @@ use lib.ListN.{get_or}
 use borrow.Author.Tests.{ltb-true, ltb-false}
 use Rattle.ascii.proofs.Cases.{either, both}
 use Rattle.header.specs.Records.{found}
+use Rattle.header.proofs.Becomes.{not_found}
 use Rattle.refusal.specs.Refusal.{accepted}
 use Rattle.tform.specs.declared.TFormType.{TFormType}
 use Rattle.tform.specs.Width.{can_scale}
@@ -31,10 +32,6 @@ use Rattle.bintable.proofs.Kept.{passes, entry_layout, entry_columns}
 neither : (t u : Bool) → (t || u) ≡ false → (t ≡ false) × (u ≡ false)
 neither true u e = cc
 neither false u e = (refl, e)
-
-pub not_found : (r : Option ℕ) → found r ≡ false → r ≡ None
-not_found (Some k) e = cc
-not_found None e = refl
 
 pub not_true : (t : Bool) → not t ≡ true → t ≡ false
 not_true true e = cc

@@ -2,12 +2,11 @@
 -- and one whose columns are refused with 16, or with what comes before it.
 -- Assumes nothing.
 use Rattle.std.specs.Prelude.{None}
-use Prim.Native.Nat.{ℕ, ◌-◌, ◌*◌}
-use Prim.Native.String.{String}
+use Prim.Native.Nat.{ℕ, ◌*◌}
 use mathlib.Core.Path.{◌≡◌, refl}
 use mathlib.Core.Bool.{true}
 use mathlib.Core.List.{List, [], ◌∷◌, ◌++◌, flat_map}
-use lib.ListN.{length, replicate}
+use lib.ListN.{replicate}
 use Rattle.std.specs.Float.{Float, binary64}
 use Rattle.std.specs.Float.Ieee.{round, of_bits}
 use Rattle.ascii.specs.Text.{bytes, same, front, spaces, trim, decimal}
@@ -17,6 +16,7 @@ use Rattle.card.specs.Value.{digits_value, integer_value, string_value, value_fr
 use Rattle.keyword.specs.Names.{range, numeral, indexed, single, once_roots, once_names, position}
 use Rattle.header.specs.Records.{records, has_end, before_end, names, second, repeated_after}
 use Rattle.header.specs.Checks.{bad_length, check1, check2, check3, checked, names_read}
+use Rattle.header.proofs.Padded.{padded}
 use Rattle.refusal.specs.Refusal as O
 use Rattle.real.specs.Real.{nearest, with_exponent, without_exponent, unsigned, real_at}
 use Rattle.tform.specs.declared.VariableArrayTy.TheVariants as T
@@ -28,10 +28,6 @@ use Rattle.layout.specs.declared.BinTable.{BinTable}
 use Rattle.layout.specs.Layout.{no_column, row_bytes}
 use Rattle.bintable.specs.Checks.{scaling_given, twice, check16, check17, first_refusal}
 use Rattle.bintable.specs.Entry.{scaling_of, null_of, required, limited, theap_check, nine, nine_checks, column_check, column_checks, columns_from, layout_of, check9, check10, header_checks, all_checks, accepted, refused, entry}
-
--- a record: its text, and spaces up to 80 bytes
-unfoldable pub padded : String → List ℕ
-padded text = bytes text ++ replicate (80 - length (bytes text)) 32
 
 -- ---- factors and zeros
 

@@ -5,3 +5,7 @@ pub mod Pass
 pub mod Lengths
 pub mod Lookup
 pub mod Parted
+pub mod Becomes
+pub mod Unused
+pub mod Padded
+pub mod UnusedExamples

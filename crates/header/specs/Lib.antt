@@ -1,3 +1,4 @@
 pub mod Records
 pub mod Checks
 pub mod Noting
+pub mod Unused

@@ -3,7 +3,8 @@
 -- Assumes nothing.
 use Rattle.std.specs.Prelude.{Option, Some, None}
 use mathlib.Core.Path.{◌≡◌, refl, sym, ap, ◌∙◌}
-use mathlib.Core.List.{List, [], ◌∷◌, ◌++◌, map, flat_map}
+use mathlib.Core.List.{List, [], ◌∷◌, ◌++◌, map, flat_map, append_assoc}
+use Rattle.std.proofs.lemmas.Grind.{flat_map-append}
 use Prim.Native.Nat.{ℕ, zero, suc, ◌+◌, ◌-◌, ◌*◌, ◌/◌, ◌%◌, ◌<◌, ◌≤◌}
 use native.Mathlib.Nat.{zero-mul, suc-mul, le_of_suc-le-suc, mul-le-mul_right, mod-lt, div-add-mod', div-lt_iff_lt-mul}
 use native.Mathlib.Omega.{arith}
@@ -13,8 +14,8 @@ use lib.Dec.{ltb}
 use borrow.Author.Tests.{ltb-true, ltb-false, lt-ltb}
 use Rattle.ascii.specs.Text.{bytes, same}
 use Rattle.ascii.proofs.Cases.{either}
-use Rattle.keyword.specs.Names.{range, numeral, index_limit, column_slots, indexed, single, once_roots, roots, names_up_to, slot_names, once_names, position}
-use Rattle.keyword.proofs.Position.{position_append, range_at, map_at}
+use Rattle.keyword.specs.Names.{range, numeral, index_limit, column_slots, indexed, single, once_roots, other_roots, roots, names_up_to, used_names, slot_names, once_names, position}
+use Rattle.keyword.proofs.Position.{below, position_append, position_front, range_at, map_at}
 use Rattle.keyword.proofs.Numerals.{index_at}
 use Rattle.keyword.proofs.Parts.{Rooted, all_rooted, once_rooted, length_indexed, root_length, names_root}
 
@@ -138,3 +139,30 @@ rooted_name r k p q =
 pub rooted_inside : (r k : ℕ) → r < length roots → k < column_slots → first_slot r + k < length slot_names
 unfolding single
 rooted_inside r k p q = omega (arith, slots_length, mul-le-mul_right column_slots p)
+
+-- ---- the used names
+
+-- each single name is one, and each root with a number from 1 to 999
+pub used_single : (s : ℕ) → s < length single → position (get_or single s []) used_names ≡ Some s
+unfolding used_names
+used_single s h =
+    position_append (get_or single s []) single (flat_map (indexed index_limit) roots) ∙ rw (own_at single places s h)
+
+pub used_rooted : (r n : ℕ) → r < length roots → 1 ≤ n → n ≤ index_limit
+    → position (get_or roots r [] ++ numeral n) used_names ≡ Some (length single + (r * index_limit + (n - 1)))
+unfolding used_names
+used_rooted r n p least most =
+    let e : 1 + (n - 1) ≡ n = omega arith in
+    let own = own_indexed index_limit roots (omega arith) (omega arith) all_rooted r (n - 1) p (omega arith) in rw e at own
+
+-- a name that is none of them may stand twice
+pub unused_once : (n : List ℕ) → position n used_names ≡ None → position n once_names ≡ None
+unfolding used_names once_names flat_map
+unused_once n e =
+    position_front n (names_up_to index_limit once_roots) (flat_map (indexed index_limit) other_roots)
+    ∙ ap (below (length (names_up_to index_limit once_roots))) (ap (position n) (sym parted) ∙ e)
+  where
+    parted : names_up_to index_limit roots ≡ names_up_to index_limit once_roots ++ flat_map (indexed index_limit) other_roots
+    parted =
+        ap (λ (l : List (List ℕ)). single ++ l) (flat_map-append (indexed index_limit) once_roots other_roots)
+        ∙ sym (append_assoc single (flat_map (indexed index_limit) once_roots) (flat_map (indexed index_limit) other_roots))

@@ -5,4 +5,5 @@ pub mod Lengths
 pub mod Owned
 pub mod PlainRow
 pub mod Runs
+pub mod Narrow
 pub mod Stored

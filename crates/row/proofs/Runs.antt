@@ -15,8 +15,10 @@ use Rattle.layout.specs.declared.BinTable.{BinTable}
 use Rattle.refusal.specs.declared.Refusal.{Refusal}
 use Rattle.refusal.specs.declared.Refusal.TheVariants as R
 use Rattle.layout.specs.Layout.{columns_ok, layout_ok}
+use Rattle.header.specs.Unused.{header_may_become}
 use Rattle.bintable.specs.Entry.{accepted, entry}
 use Rattle.bintable.proofs.Kept.{parsed_entry}
+use Rattle.bintable.proofs.Unused.{entry_same}
 use Rattle.cell.specs.declared.DataValue.TheVariants as D
 use Rattle.cell.specs.declared.Cell.{Cell}
 use Rattle.cell.specs.Item.{word, item}
@@ -34,6 +36,7 @@ use Rattle.walk.specs.Step.{fits, choice_ok, belongs, cursor_at, Selection, choi
 use Rattle.walk.specs.Agree.{Agree, Counted, SameSteps}
 use Rattle.walk.proofs.Answers.{cell_answer, row_answer, seek_answer, answer_stands, opening_decides}
 use Rattle.walk.proofs.Isolation.{isolation}
+use Rattle.walk.proofs.Same.{agree_self}
 use Rattle.walk.proofs.Readings.{run_in}
 use Rattle.walk.proofs.Examples.{area}
 use Rattle.walk.proofs.Together.{table, cursor}
@@ -171,6 +174,26 @@ pub choices_isolated : (h a b : List ℕ) (sel sel' : Selection) (heap : Bool) (
     → Isolated la lb a b sel heap oa ob
 choices_isolated h a b sel sel' heap la lb oa ob entry_a entry_b opened_a opened_b e agree =
     runs_isolated h a b sel heap la lb oa ob entry_a entry_b opened_a (opened_b ∙ choice_opens lb b sel sel' heap e) agree
+
+-- the two areas may also have two headers, of which one may become the other
+pub headers_isolated : (h g a b : List ℕ) (sel : Selection) (heap : Bool) (la lb : BinTable) (oa ob : Result TableData Refusal)
+    → header_may_become h g ≡ true
+    → EntryEnsures h a (Ok la) → EntryEnsures g b (Ok lb)
+    → OpenEnsures la a sel heap oa → OpenEnsures lb b sel heap ob
+    → Agree la a b (choice_of la sel) heap
+    → Isolated la lb a b sel heap oa ob
+headers_isolated h g a b sel heap la lb oa ob m entry_a entry_b opened_a opened_b agree =
+    runs_isolated h a b sel heap la lb oa ob entry_a (entry_b ∙ sym (entry_same h g m b)) opened_a opened_b agree
+
+-- so with one area too: every run on the two headers is the same
+pub headers_one_area : (h g a : List ℕ) (sel : Selection) (heap : Bool) (la lb : BinTable) (oa ob : Result TableData Refusal)
+    → header_may_become h g ≡ true
+    → EntryEnsures h a (Ok la) → EntryEnsures g a (Ok lb)
+    → OpenEnsures la a sel heap oa → OpenEnsures lb a sel heap ob
+    → Isolated la lb a a sel heap oa ob
+headers_one_area h g a sel heap la lb oa ob m entry_h entry_g opened_h opened_g =
+    headers_isolated h g a a sel heap la lb oa ob m entry_h entry_g opened_h opened_g
+    (agree_self la a (choice_of la sel) heap)
 
 -- ---- a run of all six calls, on the request's example: a cell, the rest of its row scaled, a row that the table lacks, a seek back, a list that is too
 -- short, and the first cell again, scaled

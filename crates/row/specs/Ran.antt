@@ -90,7 +90,8 @@ pub record SameRuns (la lb : BinTable) (a b : List ℕ) (sel : Selection) (heap 
   pub counted_a : Counted 0 xs os
   pub counted_b : Counted 0 xs os'
 
--- the layouts la and lb that the entry returned for one header, with a and with b, and what opening returned on each
+-- the layouts la and lb that the entry returned with a and with b, for one header or for two of which the one may become the
+-- other, and what opening returned on each
 pub record Isolated (la lb : BinTable) (a b : List ℕ) (sel : Selection) (heap : Bool) (oa ob : Result TableData Refusal) : Type 0 where
   -- the layouts are the same
   pub layouts : la ≡ lb

@@ -45,7 +45,7 @@ use Rattle.walk.specs.Walk.{Step, read_cell, read_row, seek, Reply, got_cell, so
 use Rattle.walk.specs.Step.{fits, choice_ok, belongs, cursor_at, listed, choice_from, choice_of, open_with, StepResult, cursor_step, run}
 use Rattle.walk.specs.Agree.{Same, SameItems, Agree, SameSteps}
 use Rattle.walk.proofs.Isolation.{isolation}
-use Rattle.walk.proofs.Together.{padded}
+use Rattle.header.proofs.Padded.{padded}
 
 abbrev column : TFormType → ℕ → Column
 column f at = record { form = f; count = 1; start = at; name = None; scaling_given = false; scaling = no_scaling; null = NotGiven }

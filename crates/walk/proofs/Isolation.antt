@@ -33,12 +33,12 @@ unfolding open_with
 entry_opens h a l sel heap e = rw (entry_fits h a l e)
 
 -- what a cursor that was opened is, and that its choice belongs
-by_choice : (t : Bool) (o c : TableData) → cond t (opened o) (not_opened 11) ≡ opened c → (t ≡ true) × (o ≡ c)
+pub by_choice : (t : Bool) (o c : TableData) → cond t (opened o) (not_opened 11) ≡ opened c → (t ≡ true) × (o ≡ c)
 by_choice true o c e = (refl, ap (λ (x : Opening). x.cursor) e)
 by_choice false o c e = let q : H.refused 11 0 ≡ H.accepted = ap (λ (x : Opening). x.outcome) e in (cc, cc)
 
 -- the steps from a newly opened cursor are what the plain walk gives
-walked : (l : BinTable) (a : List ℕ) (sel : Selection) (heap : Bool) (xs : List Step) → fits l a ≡ true → choice_ok l (choice_of l sel) ≡ true
+pub walked : (l : BinTable) (a : List ℕ) (sel : Selection) (heap : Bool) (xs : List Step) → fits l a ≡ true → choice_ok l (choice_of l sel) ≡ true
     → run l a (cursor_at (choice_of l sel) heap start) xs ≡ map (with_cursor (choice_of l sel) heap) (plain_walk l a (choice_of l sel) heap xs)
 walked l a sel heap xs ha hc =
     follows l a (choice_of l sel) heap ha hc start xs (start_ok (row_entries l a (choice_of l sel) heap) l.naxis2)

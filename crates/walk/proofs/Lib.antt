@@ -21,3 +21,7 @@ pub mod ScaledTables
 pub mod WithoutNulls
 pub mod ColumnNulls
 pub mod NullTables
+pub mod Narrow
+pub mod NarrowReads
+pub mod NarrowRows
+pub mod NarrowTables

@@ -25,7 +25,7 @@ use Rattle.layout.specs.declared.Null.TheVariants.{NotGiven}
 use Rattle.layout.specs.Layout.{no_scaling, no_column, row_bytes, columns_ok, layout_ok}
 use Rattle.bintable.specs.Checks.{check16, check17, scaling_given, first_refusal}
 use Rattle.bintable.specs.Entry.{scaling_of, null_of, required, limited, theap_check, nine, nine_checks, column_check, column_checks, columns_from, layout_of, check9, check10, header_checks, all_checks, accepted, entry}
-unfoldable pub use Rattle.bintable.proofs.ScaledHeaders.{padded}
+use Rattle.header.proofs.Padded.{padded}
 use Rattle.cell.specs.declared.DataValue.TheVariants as D
 use Rattle.cell.specs.declared.Cell.{Cell}
 use Rattle.cell.specs.Item.{word, item}

@@ -6,3 +6,4 @@ pub mod Scaled
 pub mod Readings
 pub mod Stored
 pub mod Nulls
+pub mod Narrow
