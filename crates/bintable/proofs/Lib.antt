@@ -14,6 +14,7 @@ pub mod RealRecords
 pub mod Nulls
 pub mod NullRecords
 pub mod TypeZeros
+pub mod Computed
 pub mod ScaledHeaders
 pub mod NullHeaders
 pub mod UnusedHeaders

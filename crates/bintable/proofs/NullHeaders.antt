@@ -1,37 +1,27 @@
 -- Two headers by computation: one whose columns have nulls, with the layout that the entry returns for it, and one whose
 -- columns are refused with 17, or with what comes before it.
 -- Assumes nothing.
-use Rattle.std.specs.Prelude.{None}
 use Prim.Native.Nat.{ℕ, ◌*◌}
 use mathlib.Core.Path.{◌≡◌, refl}
-use mathlib.Core.Bool.{true, false}
-use mathlib.Core.List.{List, [], ◌∷◌, ◌++◌, flat_map}
+use mathlib.Core.List.{List, [], ◌∷◌, ◌++◌}
 use lib.IntN.{pos, negsuc}
 use lib.ListN.{replicate}
 use Rattle.std.specs.Float.{Float, binary64}
-use Rattle.std.specs.Float.Ieee.{round, of_bits}
-use Rattle.ascii.specs.Text.{bytes, same, front, spaces, trim, decimal}
-use Rattle.card.specs.Ends.{follows, closing}
-use Rattle.card.specs.Record.{card_at, is_end, has_value, name_of}
-use Rattle.card.specs.Value.{digits_value, integer_value, string_value, value_from, field_value, value_of, wide_of}
-use Rattle.keyword.specs.Names.{range, numeral, indexed, single, once_roots, once_names, position}
-use Rattle.header.specs.Records.{records, has_end, before_end, names, second, repeated_after}
-use Rattle.header.specs.Checks.{bad_length, check1, check2, check3, checked, names_read}
+use Rattle.std.specs.Float.Ieee.{of_bits}
 use Rattle.refusal.specs.Refusal as O
-use Rattle.real.specs.Real.{nearest, with_exponent, without_exponent, unsigned, real_at}
 use Rattle.tform.specs.declared.VariableArrayTy.TheVariants as T
 use Rattle.tform.specs.declared.TFormType.{TFormType}
 use Rattle.tform.specs.declared.TFormType.TheVariants as F
-use Rattle.tform.specs.Width.{among, letter_width, can_scale, can_have_null}
-use Rattle.tform.specs.Form.{repeat_count, element_among, element_of, first_element, kind_of, form_of}
 use Rattle.layout.specs.declared.Null.{Null}
 use Rattle.layout.specs.declared.Null.TheVariants as N
 use Rattle.layout.specs.declared.Column.{Column}
 use Rattle.layout.specs.declared.BinTable.{BinTable}
-use Rattle.layout.specs.Layout.{no_scaling, no_column, row_bytes}
-use Rattle.bintable.specs.Checks.{scaling_given, twice, check16, check17, first_refusal}
-use Rattle.bintable.specs.Entry.{scaling_of, null_of, required, limited, theap_check, nine, nine_checks, column_check, column_checks, columns_from, layout_of, check9, check10, header_checks, all_checks, accepted, refused, entry}
-use Rattle.header.proofs.Padded.{padded}
+use Rattle.layout.specs.Layout.{no_column}
+use Rattle.layout.proofs.Literals.{column, scaled_by, with_null}
+use Rattle.bintable.specs.Checks.{check17}
+use Rattle.bintable.specs.Entry.{column_check, accepted, refused, entry}
+use Rattle.header.proofs.Texts.{padded, first_records}
+use Rattle.bintable.proofs.Computed.{computed}
 
 -- ---- nulls
 
@@ -39,14 +29,7 @@ use Rattle.header.proofs.Padded.{padded}
 -- zero, and second records of TNULL8 and TNULL65, which name no column of this table
 unfoldable pub header : List ℕ
 header =
-    padded "XTENSION= 'BINTABLE'"
-    ++ padded "BITPIX  =                    8"
-    ++ padded "NAXIS   =                    2"
-    ++ padded "NAXIS1  =                   33"
-    ++ padded "NAXIS2  =                    2"
-    ++ padded "PCOUNT  =                    2"
-    ++ padded "GCOUNT  =                    1"
-    ++ padded "TFIELDS =                    7"
+    first_records "33" "2" "2" "7"
     ++ padded "TFORM1  = '1B      '"
     ++ padded "TNULL1  =                  255 / missing"
     ++ padded "TFORM2  = '1I      '"
@@ -74,21 +57,13 @@ header =
 abbrev double : ℕ → Float
 double bits = of_bits binary64 bits
 
-abbrev column : TFormType → ℕ → Null → Column
-column f at n = record { form = f; count = 1; start = at; name = None; scaling_given = false; scaling = no_scaling; null = n }
+-- a column of one item, with a null
+abbrev item : TFormType → ℕ → Null → Column
+item f at n = with_null n (column f 1 at)
 
--- with the factor and the zero that some bits are
-abbrev scaled_column : TFormType → ℕ → ℕ → ℕ → Null → Column
-scaled_column f at factor_bits zero_bits n =
-    record {
-      form = f;
-      count = 1;
-      start = at;
-      name = None;
-      scaling_given = true;
-      scaling = record { factor = double factor_bits; zero = double zero_bits };
-      null = n;
-    }
+-- and with the factor and the zero that some bits are
+abbrev scaled_item : TFormType → ℕ → ℕ → ℕ → Null → Column
+scaled_item f at factor_bits zero_bits n = scaled_by (double factor_bits) (double zero_bits) (item f at n)
 
 -- the zeros 32768 and -128, and the factor 2
 unfoldable pub table : BinTable
@@ -100,13 +75,13 @@ table =
       theap = 66;
       tfields = 7;
       columns =
-          column (F.Items T.B) 0 (N.Number (pos 255))
-          ∷ column (F.Items T.I) 1 (N.Number (pos 65535))
-          ∷ scaled_column (F.Items T.I) 3 0x3FF0000000000000 0x40E0000000000000 (N.Number (pos 0))
-          ∷ scaled_column (F.Items T.J) 5 0x4000000000000000 0 (N.Number (negsuc 0))
-          ∷ column (F.Items T.K) 9 N.OutOfRange
-          ∷ column (F.Items T.K) 17 (N.Number (negsuc 9223372036854775807))
-          ∷ scaled_column (F.P T.B) 25 0x3FF0000000000000 0xC060000000000000 (N.Number (pos 7))
+          item (F.Items T.B) 0 (N.Number (pos 255))
+          ∷ item (F.Items T.I) 1 (N.Number (pos 65535))
+          ∷ scaled_item (F.Items T.I) 3 0x3FF0000000000000 0x40E0000000000000 (N.Number (pos 0))
+          ∷ scaled_item (F.Items T.J) 5 0x4000000000000000 0 (N.Number (negsuc 0))
+          ∷ item (F.Items T.K) 9 N.OutOfRange
+          ∷ item (F.Items T.K) 17 (N.Number (negsuc 9223372036854775807))
+          ∷ scaled_item (F.P T.B) 25 0x3FF0000000000000 0xC060000000000000 (N.Number (pos 7))
           ∷ replicate 57 no_column;
     }
 
@@ -125,7 +100,7 @@ area =
     ∷ 0x07 ∷ 0x08 ∷ []
 
 pub enters : entry header area ≡ accepted table
-unfolding header table padded bytes same front spaces trim follows decimal closing card_at is_end has_value name_of digits_value integer_value string_value value_from field_value value_of wide_of range numeral indexed single once_roots once_names flat_map position records has_end before_end names second repeated_after bad_length check1 check2 check3 checked names_read nearest with_exponent without_exponent unsigned real_at round of_bits among letter_width can_scale can_have_null repeat_count element_among element_of first_element kind_of form_of row_bytes first_refusal required limited theap_check nine nine_checks twice check16 check17 scaling_given scaling_of null_of column_check column_checks columns_from layout_of check9 check10 header_checks all_checks
+unfolding computed header table
 enters = refl
 
 -- ---- what is refused
@@ -134,14 +109,7 @@ enters = refl
 -- integer, nulls of E, of arrays of E and of X, and one of 20 digits, one that is a string and one that is no whole number
 unfoldable pub bad_header : List ℕ
 bad_header =
-    padded "XTENSION= 'BINTABLE'"
-    ++ padded "BITPIX  =                    8"
-    ++ padded "NAXIS   =                    2"
-    ++ padded "NAXIS1  =                    0"
-    ++ padded "NAXIS2  =                    0"
-    ++ padded "PCOUNT  =                    0"
-    ++ padded "GCOUNT  =                    1"
-    ++ padded "TFIELDS =                   10"
+    first_records "0" "0" "0" "10"
     ++ padded "TFORM1  = '1J      '"
     ++ padded "TNULL1  =                   -1"
     ++ padded "TFORM2  = '1B      '"
@@ -178,10 +146,10 @@ pub columns_refused : (column_check bad_header 1 ≡ O.accepted)
     × (column_check bad_header 8 ≡ O.refused 17 8)
     × (column_check bad_header 9 ≡ O.refused 17 9)
     × (column_check bad_header 10 ≡ O.refused 17 10)
-unfolding bad_header padded bytes same front spaces trim follows decimal closing card_at is_end has_value name_of digits_value integer_value string_value value_from field_value value_of wide_of range numeral position records has_end before_end names second bad_length names_read unsigned real_at among can_scale can_have_null repeat_count element_among element_of first_element kind_of form_of first_refusal twice check16 check17 scaling_given column_check
+unfolding computed bad_header
 columns_refused = (refl, refl, refl, refl, refl, refl, refl, refl, refl, refl, refl)
 
 -- the first of them decides: 17 of column 2 comes before 8 of column 3
 pub bad_entry : entry bad_header [] ≡ refused 17 2
-unfolding bad_header padded bytes same front spaces trim follows decimal closing card_at is_end has_value name_of digits_value integer_value string_value value_from field_value value_of wide_of range numeral indexed single once_roots once_names flat_map position records has_end before_end names second repeated_after bad_length check1 check2 check3 checked names_read unsigned real_at among letter_width can_scale can_have_null repeat_count element_among element_of first_element kind_of form_of row_bytes first_refusal required limited theap_check nine nine_checks twice check16 check17 scaling_given scaling_of column_check column_checks columns_from layout_of check9 check10 header_checks all_checks
+unfolding computed bad_header
 bad_entry = refl

@@ -72,6 +72,9 @@ module _ (h g : List ℕ) (k : ℕ) (c : card_at h k ≡ card_at g k) where
       ∙ sym (string_bytes a n g k (sym value_same ∙ e))
   bytes_same None e = refl
 
+  text_same : text_in h (value_of h k) ≡ text_in g (value_of g k)
+  text_same = bytes_same (value_of h k) refl ∙ ap (text_in g) value_same
+
 -- ---- a used name
 
 module _ (h g : List ℕ) (m : header_may_become h g ≡ true) where
@@ -96,12 +99,8 @@ module _ (h g : List ℕ) (m : header_may_become h g ≡ true) where
     real_stays missing = looked_up (real_or missing) (real_same h g) refl
 
     -- the text of its value
-    text_stays : text_in h (value_at h (record_of h u)) ≡ text_in g (value_at h (record_of h u))
-    text_stays = by (record_of h u) refl
-      where
-        by : (r : Option ℕ) → record_of h u ≡ r → text_in h (value_at h r) ≡ text_in g (value_at h r)
-        by (Some k) e = bytes_same h g k (card_same h g m u used k e) (value_of h k) refl
-        by None e = refl
+    text_stays : text_in h (value_at h (record_of h u)) ≡ text_in g (value_at g (record_of g u))
+    text_stays = looked_up (λ f r. text_in f (value_at f r)) (text_same h g) refl
 
   -- ---- the nine names
 
@@ -110,11 +109,17 @@ module _ (h g : List ℕ) (m : header_may_become h g ≡ true) where
   name_used s p = ap found (used_single s p)
 
   module _ (u : List ℕ) (used : Used u) where
-    required_same : (kind f : Option Value → Bool) (f' : Option Value → Bool)
-        → ((v : Option Value) → v ≡ value_at h (record_of h u) → f v ≡ f' v)
-        → required h (record_of h u) kind f ≡ required g (record_of g u) kind f'
+    required_same : (kind right right' : Option Value → Bool)
+        → right (value_at h (record_of h u)) ≡ right' (value_at g (record_of g u))
+        → required h (record_of h u) kind right ≡ required g (record_of g u) kind right'
     unfolding required
-    required_same kind f f' e = rw (e (value_at h (record_of h u)) refl, value_stays u used, record_same h g m u used)
+    required_same kind right right' e = rw (e, value_stays u used, record_same h g m u used)
+
+    required_within : (low high : ℕ)
+        → required h (record_of h u) is_integer (within low high)
+        ≡ required g (record_of g u) is_integer (within low high)
+    required_within low high =
+        required_same is_integer (within low high) (within low high) (ap (within low high) (value_stays u used))
 
     limited_same : (kind right : Option Value → Bool) (limit : ℕ)
         → limited h (record_of h u) kind right limit ≡ limited g (record_of g u) kind right limit
@@ -133,14 +138,14 @@ module _ (h g : List ℕ) (m : header_may_become h g ≡ true) where
         required_same (bytes "XTENSION") (name_used 0 (omega arith)) is_string
             (λ v. same (text_in h v) (bytes "BINTABLE"))
             (λ v. same (text_in g v) (bytes "BINTABLE"))
-            (λ v e. rw e (ap (λ (t : List ℕ). same t (bytes "BINTABLE"))
-            (text_stays (bytes "XTENSION") (name_used 0 (omega arith))))),
-        required_same (bytes "BITPIX") (name_used 1 (omega arith)) is_integer (within 8 8) (within 8 8) (λ v e. refl),
-        required_same (bytes "NAXIS") (name_used 2 (omega arith)) is_integer (within 2 2) (within 2 2) (λ v e. refl),
+            (ap (λ (t : List ℕ). same t (bytes "BINTABLE"))
+            (text_stays (bytes "XTENSION") (name_used 0 (omega arith)))),
+        required_within (bytes "BITPIX") (name_used 1 (omega arith)) 8 8,
+        required_within (bytes "NAXIS") (name_used 2 (omega arith)) 2 2,
         limited_same (bytes "NAXIS1") (name_used 3 (omega arith)) is_integer not_negative naxis1_limit,
         limited_same (bytes "NAXIS2") (name_used 4 (omega arith)) is_integer not_negative naxis2_limit,
         limited_same (bytes "PCOUNT") (name_used 5 (omega arith)) is_integer not_negative pcount_limit,
-        required_same (bytes "GCOUNT") (name_used 6 (omega arith)) is_integer (within 1 1) (within 1 1) (λ v e. refl),
+        required_within (bytes "GCOUNT") (name_used 6 (omega arith)) 1 1,
         limited_same (bytes "TFIELDS") (name_used 7 (omega arith)) is_integer (within 0 index_limit) tfields_limit,
         theap_same (bytes "THEAP") (name_used 8 (omega arith)) (main_of h) (size_for h "PCOUNT"),
         value_stays (bytes "NAXIS1") (name_used 3 (omega arith)),
@@ -157,9 +162,7 @@ module _ (h g : List ℕ) (m : header_may_become h g ≡ true) where
 
     form_same : form_for h n ≡ form_for g n
     unfolding once_roots other_roots
-    form_same =
-        ap form_of (text_stays (bytes "TFORM" ++ numeral n) (root_used 0 (omega arith))
-        ∙ ap (text_in g) (value_stays (bytes "TFORM" ++ numeral n) (root_used 0 (omega arith))))
+    form_same = ap form_of (text_stays (bytes "TFORM" ++ numeral n) (root_used 0 (omega arith)))
 
     scaling_checks : (f : TFormType) → check16 h n f ≡ check16 g n f
     unfolding check16 scaling_given twice once_roots other_roots
@@ -292,8 +295,8 @@ module _ (h g : List ℕ) (m : header_may_become h g ≡ true) where
         → has_name h s (column_at h n at) ≡ has_name g s (column_at h n at)
     unfolding once_roots
     named_same n at l p =
-        has_same (value_at h (ttype_of h n))
-        (text_stays (bytes "TTYPE" ++ numeral n) (root_used n l p 1 (omega arith)))
+        let name = bytes "TTYPE" ++ numeral n in let u = root_used n l p 1 (omega arith) in
+        has_same (value_at h (ttype_of h n)) (text_stays name u ∙ ap (text_in g) (sym (value_stays name u)))
 
     first_same : (i at n k : ℕ) → 1 ≤ n → n + k ≤ 1 + index_limit
         → first_column (has_name h s) i (columns_from h at n k) ≡ first_column (has_name g s) i (columns_from h at n k)
@@ -331,7 +334,7 @@ module _ (h g : List ℕ) (m : header_may_become h g ≡ true) where
         let p = ltb-true c l.tfields t in
         let n = bytes "TTYPE" ++ numeral (c + 1) in
         let u = root_used (c + 1) (omega arith) (omega (arith, p, few_columns)) 1 (omega arith) in
-        own_text h (entry_layout h a l taken) c p ∙ text_stays n u ∙ ap (text_in g) (value_stays n u)
+        own_text h (entry_layout h a l taken) c p ∙ text_stays n u
         ∙ sym (own_text g (entry_layout g a l taken_too) c p))
         (λ t. sym (name_over h l c (ltb-false c l.tfields t)) ∙ name_over g l c (ltb-false c l.tfields t))
 

@@ -71,28 +71,32 @@ module _ (r s : List ℕ) (e : may_become r s ≡ true) where
 
 -- ---- the records up to END
 
--- of two headers' records, by whether the first is END
 module _ (r s : List ℕ) (rs ss : List (List ℕ)) (e : all_may_become (r ∷ rs) (s ∷ ss) ≡ true) where
-  pub first : may_become r s ≡ true
+  first : may_become r s ≡ true
   unfolding all_may_become
   first = either (may_become r s) (λ t. t) (λ t. let q = rw t at e in cc)
 
-  pub others : is_end r ≡ false → all_may_become rs ss ≡ true
+  others : is_end r ≡ false → all_may_become rs ss ≡ true
   unfolding all_may_become
   others t = either (all_may_become rs ss) (λ u. u) (λ u. let q = rw (first, t, u) at e in cc)
 
-  pub by_end : {P : Type 0} → (is_end r ≡ true → is_end s ≡ true → P)
-      → (is_end r ≡ false → is_end s ≡ false → all_may_become rs ss ≡ true → P) → P
-  by_end f g =
-      either (is_end r) (λ t. f t (sym (end_same r s first) ∙ t)) (λ t. g t (sym (end_same r s first) ∙ t) (others t))
-
-pub no_fewer : {P : Type 0} (s : List ℕ) (ss : List (List ℕ)) → all_may_become [] (s ∷ ss) ≡ true → P
+-- what holds of no records, of records that begin with END, and, if it holds of some records, of these with one more
+-- in front that is not END, holds of all records that may become others
+pub by_records : (P : List (List ℕ) → List (List ℕ) → Type 0) → P [] []
+    → ((r s : List ℕ) (rs ss : List (List ℕ)) → may_become r s ≡ true → is_end r ≡ true → is_end s ≡ true
+    → P (r ∷ rs) (s ∷ ss))
+    → ((r s : List ℕ) (rs ss : List (List ℕ)) → may_become r s ≡ true → is_end r ≡ false → is_end s ≡ false → P rs ss
+    → P (r ∷ rs) (s ∷ ss))
+    → (rs ss : List (List ℕ)) → all_may_become rs ss ≡ true → P rs ss
 unfolding all_may_become
-no_fewer s ss e = cc
-
-pub no_more : {P : Type 0} (r : List ℕ) (rs : List (List ℕ)) → all_may_become (r ∷ rs) [] ≡ true → P
-unfolding all_may_become
-no_more r rs e = cc
+by_records P none end more [] [] e = none
+by_records P none end more [] (s ∷ ss) e = cc
+by_records P none end more (r ∷ rs) [] e = cc
+by_records P none end more (r ∷ rs) (s ∷ ss) e =
+    let f = first r s rs ss e in
+    let same = sym (end_same r s f) in
+    either (is_end r) (λ t. end r s rs ss f t (same ∙ t))
+    (λ t. more r s rs ss f t (same ∙ t) (by_records P none end more rs ss (others r s rs ss e t)))
 
 -- ---- the header
 
@@ -132,12 +136,9 @@ record_back r s e =
 
 all_back : (rs ss : List (List ℕ)) → all_may_become rs ss ≡ true → all_may_become ss rs ≡ true
 unfolding all_may_become
-all_back [] [] e = refl
-all_back [] (s ∷ ss) e = no_fewer s ss e
-all_back (r ∷ rs) [] e = no_more r rs e
-all_back (r ∷ rs) (s ∷ ss) e =
-    by_end r s rs ss e (λ t w. rw (record_back r s (first r s rs ss e), w))
-    (λ t w m. rw (record_back r s (first r s rs ss e), w, all_back rs ss m))
+all_back =
+    by_records (λ rs ss. all_may_become ss rs ≡ true) refl (λ r s rs ss f t u. rw (record_back r s f, u))
+    (λ r s rs ss f t u back. rw (record_back r s f, u, back))
 
 -- and go back
 pub header_back : (h g : List ℕ) → header_may_become h g ≡ true → header_may_become g h ≡ true
@@ -151,16 +152,23 @@ record_on r s t e d =
     by_record r s e (λ q. rw q d)
     (λ x y. by_record s t d (λ q. rw (← q) e) (λ v w. rw (x, w) (either (same r t) (λ z. rw z) (λ z. rw z))))
 
-all_on : (rs ss ts : List (List ℕ)) → all_may_become rs ss ≡ true → all_may_become ss ts ≡ true
+all_on : (rs ss : List (List ℕ)) → all_may_become rs ss ≡ true → (ts : List (List ℕ)) → all_may_become ss ts ≡ true
     → all_may_become rs ts ≡ true
 unfolding all_may_become
-all_on [] [] ts e d = d
-all_on [] (s ∷ ss) ts e d = no_fewer s ss e
-all_on (r ∷ rs) [] ts e d = no_more r rs e
-all_on (r ∷ rs) (s ∷ ss) [] e d = no_more s ss d
-all_on (r ∷ rs) (s ∷ ss) (t ∷ ts) e d =
-    let f = record_on r s t (first r s rs ss e) (first s t ss ts d) in
-    by_end r s rs ss e (λ x y. rw (f, x)) (λ x y m. rw (f, x, all_on rs ss ts m (others s t ss ts d y)))
+all_on =
+    by_records (λ rs ss. (ts : List (List ℕ)) → all_may_become ss ts ≡ true → all_may_become rs ts ≡ true) (λ ts d. d)
+    end more
+  where
+    end : (r s : List ℕ) (rs ss : List (List ℕ)) → may_become r s ≡ true → is_end r ≡ true → is_end s ≡ true
+        → (ts : List (List ℕ)) → all_may_become (s ∷ ss) ts ≡ true → all_may_become (r ∷ rs) ts ≡ true
+    end r s rs ss f t u [] d = cc
+    end r s rs ss f t u (x ∷ ts) d = rw (record_on r s x f (first s x ss ts d), t)
+
+    more : (r s : List ℕ) (rs ss : List (List ℕ)) → may_become r s ≡ true → is_end r ≡ false → is_end s ≡ false
+        → ((ts : List (List ℕ)) → all_may_become ss ts ≡ true → all_may_become rs ts ≡ true)
+        → (ts : List (List ℕ)) → all_may_become (s ∷ ss) ts ≡ true → all_may_become (r ∷ rs) ts ≡ true
+    more r s rs ss f t u on [] d = cc
+    more r s rs ss f t u on (x ∷ ts) d = rw (record_on r s x f (first s x ss ts d), t, on ts (others s x ss ts d u))
 
 -- and one that becomes another may become what that one may
 pub header_on : (h g f : List ℕ) → header_may_become h g ≡ true → header_may_become g f ≡ true
@@ -169,5 +177,5 @@ unfolding header_may_become
 header_on h g f e d =
     rw (
       eq-eqb (length h) (length f) (length_same h g e ∙ length_same g f d),
-      all_on (records h) (records g) (records f) (all_may h g e) (all_may g f d),
+      all_on (records h) (records g) (all_may h g e) (records f) (all_may g f d),
     )

@@ -7,5 +7,5 @@ pub mod Lookup
 pub mod Parted
 pub mod Becomes
 pub mod Unused
-pub mod Padded
+pub mod Texts
 pub mod UnusedExamples

@@ -5,8 +5,7 @@ use Rattle.std.specs.Prelude.{Option, Some, None}
 use mathlib.Core.Path.{◌≡◌, refl, sym, ap, ◌∙◌}
 use mathlib.Core.Bool.{Bool, true, false, ◌&&◌, cond}
 use mathlib.Core.List.{List, [], ◌∷◌, ◌++◌, map}
-use Prim.Native.Nat.{ℕ, zero, suc, ◌/◌}
-use native.Mathlib.Omega.{arith}
+use Prim.Native.Nat.{ℕ, suc, ◌/◌}
 use lib.Dec.{ltb}
 use lib.ListN.{length, get_or, length-append}
 use borrow.Author.Tests.{ltb-true}
@@ -20,8 +19,8 @@ use Rattle.header.specs.Checks.{bad_length, check1, check2, check3, checked, nam
 use Rattle.header.specs.Unused.{may_become, all_may_become, header_may_become}
 use Rattle.header.proofs.Ends.{record_at}
 use Rattle.header.proofs.Snoc.{position_snoc}
-use Rattle.header.proofs.Becomes.{Used, not_found, no_once, by_record, holds_same, stays, first, by_end, no_fewer}
-use Rattle.header.proofs.Becomes.{no_more, length_same, all_may}
+use Rattle.header.proofs.Becomes.{Used, not_found, no_once, by_record, holds_same, stays, by_records}
+use Rattle.header.proofs.Becomes.{length_same, all_may}
 
 -- ---- the records up to END
 
@@ -30,56 +29,37 @@ names_in rs = map name_of (before_end rs)
 
 ends_same : (rs ss : List (List ℕ)) → all_may_become rs ss ≡ true → has_end rs ≡ has_end ss
 unfolding has_end
-ends_same [] [] e = refl
-ends_same [] (s ∷ ss) e = no_fewer s ss e
-ends_same (r ∷ rs) [] e = no_more r rs e
-ends_same (r ∷ rs) (s ∷ ss) e = by_end r s rs ss e (λ t u. rw (t, u)) (λ t u w. rw (t, u) (ends_same rs ss w))
+ends_same =
+    by_records (λ rs ss. has_end rs ≡ has_end ss) refl (λ r s rs ss f t u. rw (t, u))
+    (λ r s rs ss f t u rest. rw (t, u) rest)
+
+-- a place that is later than another
+later_place : (f : Option ℕ) (k : ℕ) → later f ≡ Some k → (j : ℕ) × (k ≡ suc j) × (f ≡ Some j)
+later_place (Some j) k e = let q : suc j ≡ k = cc in (j, sym q, refl)
+later_place None k e = cc
 
 module _ (u : List ℕ) (used : Used u) where
-  place_same : (rs ss : List (List ℕ)) → all_may_become rs ss ≡ true
-      → position u (names_in rs) ≡ position u (names_in ss)
+  -- the first and the second place of a used name
+  abbrev SamePlaces : List (List ℕ) → List (List ℕ) → Type 0
+  SamePlaces rs ss =
+      (position u (names_in rs) ≡ position u (names_in ss)) × (second u (names_in rs) ≡ second u (names_in ss))
+
+  places_same : (rs ss : List (List ℕ)) → all_may_become rs ss ≡ true → SamePlaces rs ss
+  unfolding before_end position second
+  places_same =
+      by_records SamePlaces (refl, refl) (λ r s rs ss f t w. rw (t, w) (refl, refl))
+      (λ r s rs ss f t w rest. rw (t, w, holds_same r s f u used, rest.0, rest.1) (refl, refl))
+
+  -- and its record
+  record_stays : (rs ss : List (List ℕ)) → all_may_become rs ss ≡ true
+      → (k : ℕ) → position u (names_in rs) ≡ Some k → get_or rs k [] ≡ get_or ss k []
   unfolding before_end position
-  place_same [] [] e = refl
-  place_same [] (s ∷ ss) e = no_fewer s ss e
-  place_same (r ∷ rs) [] e = no_more r rs e
-  place_same (r ∷ rs) (s ∷ ss) e =
-      by_end r s rs ss e (λ t w. rw (t, w))
-      (λ t w m. rw (t, w, holds_same r s (first r s rs ss e) u used, place_same rs ss m))
-
-  second_place : (rs ss : List (List ℕ)) → all_may_become rs ss ≡ true
-      → second u (names_in rs) ≡ second u (names_in ss)
-  unfolding before_end second
-  second_place [] [] e = refl
-  second_place [] (s ∷ ss) e = no_fewer s ss e
-  second_place (r ∷ rs) [] e = no_more r rs e
-  second_place (r ∷ rs) (s ∷ ss) e =
-      by_end r s rs ss e (λ t w. rw (t, w))
-      (λ t w m. rw (t, w, holds_same r s (first r s rs ss e) u used, place_same rs ss m, second_place rs ss m))
-
-  -- the record of a used name
-  later_some : (f : Option ℕ) (k : ℕ) → later f ≡ Some (suc k) → f ≡ Some k
-  later_some (Some j) k e = let q : suc j ≡ suc k = cc in ap Some (omega arith)
-  later_some None k e = cc
-
-  later_zero : {P : Type 0} (f : Option ℕ) → later f ≡ Some 0 → P
-  later_zero (Some j) e = let q : suc j ≡ 0 = cc in absurd (omega arith)
-  later_zero None e = cc
-
-  record_stays : (rs ss : List (List ℕ)) → all_may_become rs ss ≡ true → (k : ℕ) → position u (names_in rs) ≡ Some k
-      → get_or rs k [] ≡ get_or ss k []
-  unfolding before_end position
-  record_stays [] [] e k p = refl
-  record_stays [] (s ∷ ss) e k p = no_fewer s ss e
-  record_stays (r ∷ rs) [] e k p = no_more r rs e
-  record_stays (r ∷ rs) (s ∷ ss) e zero p =
-      by_end r s rs ss e (λ t w. let q = rw t at p in cc)
-      (λ t w m. either (same u (name_of r)) (stays r s (first r s rs ss e) u used)
-      (λ v. later_zero (position u (names_in rs)) (rw (t, v) at p)))
-  record_stays (r ∷ rs) (s ∷ ss) e (suc k) p =
-      by_end r s rs ss e (λ t w. let q = rw t at p in cc)
-      (λ t w m. either (same u (name_of r)) (λ v. let q : Some 0 ≡ Some (suc k) = rw (t, v) at p in
-      let z : 0 ≡ suc k = cc in absurd (omega arith))
-      (λ v. record_stays rs ss m k (later_some (position u (names_in rs)) k (rw (t, v) at p))))
+  record_stays =
+      by_records (λ rs ss. (k : ℕ) → position u (names_in rs) ≡ Some k → get_or rs k [] ≡ get_or ss k [])
+      (λ k p. refl) (λ r s rs ss f t w k p. let q = rw t at p in cc)
+      (λ r s rs ss f t w rest k p. either (same u (name_of r))
+      (λ v. let q : Some 0 ≡ Some k = rw (t, v) at p in let z : 0 ≡ k = cc in rw (← z) (stays r s f u used v))
+      (λ v. let q = later_place (position u (names_in rs)) k (rw (t, v) at p) in rw q.1 (rest q.0 q.2)))
 
 -- ---- the first repeated one
 
@@ -108,19 +88,18 @@ module _ (r s : List ℕ) (e : may_become r s ≡ true) (xs ys : List (List ℕ)
       position_snoc u (name_of r) xs ∙ rw (seen u once, holds_same r s e u (once_used u once), long)
       (sym (position_snoc u (name_of s) ys))
 
-repeated_same : (rs ss : List (List ℕ)) → all_may_become rs ss ≡ true → (xs ys : List (List ℕ))
-    → length xs ≡ length ys → SameSeen xs ys
+repeated_same : (rs ss : List (List ℕ)) → all_may_become rs ss ≡ true
+    → (xs ys : List (List ℕ)) → length xs ≡ length ys → SameSeen xs ys
     → repeated_after xs (names_in rs) ≡ repeated_after ys (names_in ss)
 unfolding before_end repeated_after
-repeated_same [] [] e xs ys long seen = refl
-repeated_same [] (s ∷ ss) e xs ys long seen = no_fewer s ss e
-repeated_same (r ∷ rs) [] e xs ys long seen = no_more r rs e
-repeated_same (r ∷ rs) (s ∷ ss) e xs ys long seen =
-    let f = first r s rs ss e in
-    by_end r s rs ss e (λ t w. rw (t, w))
-    (λ t w m. rw (t, w, again_same r s f xs ys long seen, long)
+repeated_same =
+    by_records
+    (λ rs ss. (xs ys : List (List ℕ)) → length xs ≡ length ys → SameSeen xs ys
+    → repeated_after xs (names_in rs) ≡ repeated_after ys (names_in ss))
+    (λ xs ys long seen. refl) (λ r s rs ss f t w xs ys long seen. rw (t, w))
+    (λ r s rs ss f t w rest xs ys long seen. rw (t, w, again_same r s f xs ys long seen, long)
     (ap (cond (again r s f xs ys long seen (name_of s) ys) (Some (length ys)))
-    (repeated_same rs ss m (xs ++ (name_of r ∷ [])) (ys ++ (name_of s ∷ []))
+    (rest (xs ++ (name_of r ∷ [])) (ys ++ (name_of s ∷ []))
     (rw (length-append, length-append, long)) (seen_more r s f xs ys long seen))))
 
 -- ---- the header
@@ -159,7 +138,7 @@ module _ (h g : List ℕ) (e : header_may_become h g ≡ true) where
         rw (bad_same, header_ends)
         (either (bad_length g) (λ t. rw t)
         (λ t. either (has_end (records g))
-        (λ v. rw (t, v) (place_same u used (records h) (records g) (all_may h g e)))
+        (λ v. rw (t, v) (places_same u used (records h) (records g) (all_may h g e)).0)
         (λ v. rw (t, v))))
 
     pub second_same : second_of h u ≡ second_of g u
@@ -168,7 +147,7 @@ module _ (h g : List ℕ) (e : header_may_become h g ≡ true) where
         rw (bad_same, header_ends)
         (either (bad_length g) (λ t. rw t)
         (λ t. either (has_end (records g))
-        (λ v. rw (t, v) (second_place u used (records h) (records g) (all_may h g e)))
+        (λ v. rw (t, v) (places_same u used (records h) (records g) (all_may h g e)).1)
         (λ v. rw (t, v))))
 
     -- and its record is the same in both

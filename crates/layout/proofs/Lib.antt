@@ -5,3 +5,4 @@ pub mod First
 pub mod EitherCase
 pub mod Ok
 pub mod Sizes
+pub mod Literals

@@ -18,7 +18,7 @@ use Rattle.walk.specs.Plain.{field_of, cells, entries_of, chosen, column_entries
 use Rattle.walk.specs.Walk.{entries_from}
 use Rattle.walk.specs.Step.{choice_from, Opening}
 use Rattle.walk.proofs.Examples.{area}
-use Rattle.header.proofs.Padded.{padded}
+use Rattle.header.proofs.Texts.{padded}
 use Rattle.walk.proofs.Together.{header, one_block, table, enters, opens}
 use Rattle.ascii.specs.Number.{decimal_in}
 use Rattle.listing.specs.Lines.{line, table_line, column_line, cell_line, end_line}

@@ -8,31 +8,26 @@ use mathlib.Core.Bool.{Bool, true, cond}
 use mathlib.Core.List.{List, [], ◌∷◌, map}
 use lib.IntN.{pos}
 use Rattle.std.specs.Float.{binary64}
-use Rattle.std.specs.Float.Ieee.{add, mul, eq, of_int, of_bits, to_bits, round}
-use Rattle.ascii.specs.Text.{bytes}
-use Rattle.tform.specs.Width.{among, letter_width}
+use Rattle.std.specs.Float.Ieee.{of_bits}
 use Rattle.layout.specs.declared.BinTable.{BinTable}
 use Rattle.refusal.specs.declared.Refusal.{Refusal}
 use Rattle.refusal.specs.declared.Refusal.TheVariants as R
-use Rattle.layout.specs.Layout.{columns_ok, layout_ok}
 use Rattle.header.specs.Unused.{header_may_become}
 use Rattle.bintable.specs.Entry.{accepted, entry}
 use Rattle.bintable.proofs.Kept.{parsed_entry}
 use Rattle.bintable.proofs.Unused.{entry_same}
 use Rattle.cell.specs.declared.DataValue.TheVariants as D
 use Rattle.cell.specs.declared.Cell.{Cell}
-use Rattle.cell.specs.Item.{word, item}
-use Rattle.cell.specs.Field.{field}
-use Rattle.cell.specs.Scaled.{shifts_by}
 use Rattle.walk.specs.declared.TableData.{TableData}
 use Rattle.walk.specs.declared.Stepped.{Stepped}
 use Rattle.walk.specs.declared.How.{How}
-use Rattle.walk.specs.Plain.{field_of, cell_of, cells, entries_of, chosen, column_entries, columns_entries, row_entries}
+use Rattle.walk.specs.Plain.{cell_of}
 use Rattle.walk.specs.Scaled.{plain, scaled}
 use Rattle.walk.specs.Readings.{plainly, in_results}
 use Rattle.walk.specs.Walk.{Step, read_cell, read_row, seek, Reply, got_cell, got_row, sought, refused, gather, place_ok, walk_step}
 use Rattle.walk.specs.Walk as W
-use Rattle.walk.specs.Step.{fits, choice_ok, belongs, cursor_at, Selection, choice_of, opened, not_opened, open_with, opening_of, StepResult, with_cursor, cursor_step, run, plain_walk, cell_result, row_result, seek_result}
+use Rattle.walk.specs.Step.{fits, choice_ok, cursor_at, Selection, choice_of, opened, not_opened, open_with, opening_of, StepResult, with_cursor, cursor_step, run, plain_walk, cell_result, row_result, seek_result}
+use Rattle.walk.proofs.Computed.{computed_run}
 use Rattle.walk.specs.Agree.{Agree, Counted, SameSteps}
 use Rattle.walk.proofs.Answers.{cell_answer, row_answer, seek_answer, answer_stands, opening_decides}
 use Rattle.walk.proofs.Isolation.{isolation}
@@ -226,7 +221,7 @@ pub some_calls : Ran table area cursor
     ∷ result (refused 14 2) (place 0 0 2) (filler ∷ [])
     ∷ result (got_cell scaled_0) (place 0 1 3) []
     ∷ [])
-unfolding add mul eq of_int of_bits to_bits round shifts_by table cursor_step belongs fits layout_ok columns_ok choice_ok place_ok walk_step W.next gather row_entries columns_entries column_entries entries_of cells chosen field_of field item word letter_width among bytes
+unfolding computed_run table
 some_calls =
     next plain (record { cursor = place 0 1 1; answer = Ok (Some cell_0) }) refl
     (lent_next_row (place 1 0 2) scaled (filler ∷ filler ∷ []) (scaled_1 ∷ filler ∷ []) (Ok (Some 1)) refl

@@ -1,37 +1,28 @@
 -- Small tables, read by computation: what the definitions give for them, step by step.
 -- Assumes nothing.
-use Rattle.std.specs.Prelude.{None}
 use Prim.Native.Nat.{ℕ}
 use mathlib.Core.Path.{◌≡◌, refl}
 use mathlib.Core.Bool.{Bool, true, false}
 use mathlib.Core.List.{List, [], ◌∷◌, map}
 use lib.ListN.{replicate}
 use lib.IntN.{pos, negsuc}
-use Rattle.ascii.specs.Text.{bytes}
 use Rattle.tform.specs.declared.VariableArrayTy.TheVariants as T
-use Rattle.tform.specs.declared.TFormType.{TFormType}
 use Rattle.tform.specs.declared.TFormType.TheVariants as F
-use Rattle.tform.specs.Width.{among, letter_width}
-use Rattle.layout.specs.declared.Column.{Column}
 use Rattle.layout.specs.declared.BinTable.{BinTable}
-use Rattle.layout.specs.declared.Null.TheVariants.{NotGiven}
-use Rattle.layout.specs.Layout.{no_scaling, no_column, columns_ok, layout_ok}
+use Rattle.layout.proofs.Literals.{column}
+use Rattle.layout.specs.Layout.{no_column}
 use Rattle.cell.specs.declared.Logical.TheVariants.{Yes, No, Unset, Odd}
 use Rattle.cell.specs.declared.DataValue.TheVariants as D
 use Rattle.cell.specs.declared.Cell.{Cell}
-use Rattle.cell.specs.Item.{word, logical, item}
-use Rattle.cell.specs.Field.{array, field32, field64, field}
-use Rattle.walk.specs.Plain.{field_of, cell_of, cells, entries_of, chosen, column_entries, columns_entries, row_entries}
+use Rattle.walk.specs.Plain.{cell_of}
 use Rattle.walk.specs.Scaled.{plain}
-use Rattle.walk.specs.Walk.{Step, read_cell, read_row, seek, Reply, got_cell, got_row, sought, at_end, refused, start, gather, next, place_ok, walk_step}
-use Rattle.walk.specs.Step.{Selection, all_columns, listed, fits, choice_ok, belongs, cursor_at, choice_from, choice_of, opened, not_opened, open_with, StepResult, cursor_step, run}
-
-abbrev column : TFormType → ℕ → ℕ → Column
-column f n at = record { form = f; count = n; start = at; name = None; scaling_given = false; scaling = no_scaling; null = NotGiven }
+use Rattle.walk.specs.Walk.{Step, read_cell, read_row, seek, Reply, got_cell, got_row, sought, at_end, refused, start}
+use Rattle.walk.specs.Step.{Selection, all_columns, listed, cursor_at, choice_of, opened, not_opened, open_with, StepResult, run}
+use Rattle.walk.proofs.Computed.{computed_run}
 
 -- the answers of some steps from an opened cursor
 pub answers : BinTable → List ℕ → Selection → Bool → List Step → List Reply
-unfolding run cursor_step belongs fits layout_ok columns_ok choice_ok choice_from place_ok walk_step next gather row_entries columns_entries column_entries entries_of cells chosen field_of field field32 field64 array item logical word letter_width among bytes
+unfolding computed_run
 answers l a sel heap xs = map (λ (o : StepResult). o.reply) (run l a (cursor_at (choice_of l sel) heap start) xs)
 
 -- ---- `1I`, `1J`, two rows
@@ -51,17 +42,17 @@ abbrev pub area : List ℕ
 area = 0x00 ∷ 0x01 ∷ 0x00 ∷ 0x00 ∷ 0x1F ∷ 0x40 ∷ 0xFF ∷ 0xFF ∷ 0x00 ∷ 0x00 ∷ 0x00 ∷ 0x2A ∷ []
 
 opens : open_with table area all_columns true ≡ opened (cursor_at 3 true start)
-unfolding open_with fits layout_ok columns_ok choice_ok choice_from letter_width among bytes
+unfolding computed_run
 opens = refl
 
 -- column 9 of 2
 no_column_lem : open_with table area (listed (9 ∷ [])) true ≡ not_opened 11
-unfolding open_with fits layout_ok columns_ok choice_ok choice_from letter_width among bytes
+unfolding computed_run
 no_column_lem = refl
 
 -- 11 bytes for 12
 too_short : open_with table (0 ∷ 0 ∷ 0 ∷ 0 ∷ 0 ∷ 0 ∷ 0 ∷ 0 ∷ 0 ∷ 0 ∷ 0 ∷ []) all_columns true ≡ not_opened 10
-unfolding open_with fits layout_ok columns_ok letter_width among bytes
+unfolding computed_run
 too_short = refl
 
 pub four_cells : answers table area all_columns true (replicate 6 (read_cell plain))
@@ -148,5 +139,5 @@ empty_alone false = refl
 two_descriptors : open_with
     (record { naxis1 = 16; naxis2 = 1; pcount = 0; theap = 16; tfields = 1; columns = column (F.P T.E) 2 0 ∷ replicate 63 no_column })
     (replicate 16 0) all_columns true ≡ not_opened 10
-unfolding open_with fits layout_ok columns_ok letter_width among bytes
+unfolding computed_run
 two_descriptors = refl

@@ -11,6 +11,7 @@ pub mod Own
 pub mod Steps
 pub mod Answers
 pub mod InOrder
+pub mod Computed
 pub mod Examples
 pub mod Together
 pub mod Empty

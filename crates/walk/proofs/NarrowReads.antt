@@ -50,11 +50,6 @@ cells_read m (E.OutsideHeap k ∷ es) h = none_at_13 m k es
 cells_read zero (E.Cell x ∷ es) h = absurd (omega (arith, h))
 cells_read (suc m) (E.Cell x ∷ es) h = ap (λ (xs : List Cell). x ∷ xs) (cells_read m es (omega (arith, h)))
 
--- the column of the 13 that some entries gather to; 0 where they gather to cells
-abbrev column_13 : Gathered → ℕ
-column_13 (all_cells xs) = 0
-column_13 (outside k) = k
-
 ended : (xs : List Cell) (k : ℕ) → all_cells xs ≡ outside k → ⊥
 ended xs k e = cc
 
@@ -96,7 +91,7 @@ module _ (keep : ℕ → Bool) where
   behind_first (E.Cell x ∷ es) k e t =
       ap (λ (fs : List Entry). E.Cell x ∷ fs) (behind_first es k (still_outside x k (gather es) e) t)
   behind_first (E.OutsideHeap j ∷ es) k e t =
-      let q : j ≡ k = ap column_13 e in
+      let q : j ≡ k = cc in
       rw (q, t)
 
 -- ---- a cursor that was opened

@@ -21,7 +21,7 @@ use Rattle.walk.specs.declared.Entry.TheVariants as E
 use Rattle.walk.specs.declared.How.{How}
 use Rattle.walk.specs.Plain.{row_entries}
 use Rattle.walk.specs.Scaled.{in_reading}
-use Rattle.walk.specs.Walk.{read_row, Reply, got_cell, got_row, sought, at_end, refused, State}
+use Rattle.walk.specs.Walk.{read_row, got_row, refused, State}
 use Rattle.walk.specs.Walk.{Gathered, all_cells, outside, before, gather, row_outcome, walk_step}
 use Rattle.walk.specs.Step.{belongs, cursor_at, Selection, all_columns, wanted, choice_of}
 use Rattle.walk.specs.Step.{opened, open_with, with_cursor, StepResult, cursor_step}
@@ -70,22 +70,6 @@ module _ (keep : ℕ → Bool) where
 
 -- ---- what the answer of a row read says of the entries that were left in the row
 
--- the number that a row read answers; 0 for any other answer
-abbrev number_answered : Reply → ℕ
-number_answered (got_cell x) = 0
-number_answered (got_row k) = k
-number_answered sought = 0
-number_answered at_end = 0
-number_answered (refused n p) = 0
-
--- the place of a refusal; 0 for any other answer
-abbrev place_refused : Reply → ℕ
-place_refused (got_cell x) = 0
-place_refused (got_row k) = 0
-place_refused sought = 0
-place_refused at_end = 0
-place_refused (refused n p) = p
-
 module _ (rows : ℕ → List Entry) (n : ℕ) (s : State) (how : How) (list : List Cell) where
   -- a number: the list then begins with so many cells, which are all that was left
   stored : (g : Gathered) (k : ℕ) → let o = row_outcome rows n s how list g in o.reply ≡ got_row k
@@ -98,7 +82,7 @@ module _ (rows : ℕ → List Entry) (n : ℕ) (s : State) (how : How) (list : L
           → let o = row_outcome rows n s how list (all_cells xs) in
           (all_cells xs ≡ all_cells (take k o.list)) × (length (take k o.list) ≡ k)
       fits_in t q =
-          let w : length xs ≡ k = ap number_answered q in
+          let w : length xs ≡ k = cc in
           rw (t, ← w, take-append_seam xs (drop (length xs) list)) (refl, refl)
 
       too_long : refused 14 (length xs) ≡ got_row k → ⊥
@@ -106,7 +90,7 @@ module _ (rows : ℕ → List Entry) (n : ℕ) (s : State) (how : How) (list : L
 
   -- a 13: it was the first that was left
   first_out : (g : Gathered) (k : ℕ) → (row_outcome rows n s how list g).reply ≡ refused 13 k → g ≡ outside k
-  first_out (outside j) k e = ap outside (ap place_refused e)
+  first_out (outside j) k e = let w : j ≡ k = cc in ap outside w
   first_out (all_cells xs) k e =
       either (leb (length xs) (length list)) (λ t. absurd (number (rw t at e))) (λ t. absurd (other (rw t at e)))
     where

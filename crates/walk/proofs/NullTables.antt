@@ -2,29 +2,24 @@
 -- mix both readings, to the cells.
 -- Assumes nothing.
 use Prim.Native.Nat.{ℕ}
-use mathlib.Core.Path.{◌≡◌, refl}
+use mathlib.Core.Path.{refl}
 use mathlib.Core.Bool.{true}
-use mathlib.Core.List.{List, [], ◌∷◌, map}
+use mathlib.Core.List.{List, [], ◌∷◌}
 use lib.ListN.{replicate}
 use lib.IntN.{pos, negsuc}
 use Rattle.std.specs.Float.{binary64}
-use Rattle.std.specs.Float.Ieee.{add, mul, eq, of_int, of_bits, to_bits, round}
-use Rattle.ascii.specs.Text.{bytes}
-use Rattle.tform.specs.Width.{among, letter_width}
-use Rattle.layout.specs.Layout.{columns_ok, layout_ok}
-use Rattle.bintable.specs.Entry.{accepted, entry}
+use Rattle.std.specs.Float.Ieee.{of_bits}
 use Rattle.bintable.proofs.NullHeaders.{header, table, area, enters}
 use Rattle.cell.specs.declared.DataValue.{DataValue}
 use Rattle.cell.specs.declared.DataValue.TheVariants as D
 use Rattle.cell.specs.declared.Cell.{Cell}
-use Rattle.cell.specs.Item.{blank_cell, word, item}
-use Rattle.cell.specs.Field.{array, field32, field}
-use Rattle.cell.specs.Scaled.{shifts_by}
+use Rattle.cell.specs.Item.{blank_cell}
 use Rattle.walk.specs.declared.TableData.{TableData}
-use Rattle.walk.specs.Plain.{field_of, cell_of, cells, entries_of, chosen, column_entries, columns_entries, row_entries}
+use Rattle.walk.specs.Plain.{cell_of}
 use Rattle.walk.specs.Scaled.{plain, scaled}
-use Rattle.walk.specs.Walk.{Step, read_cell, read_row, seek, Reply, got_cell, got_row, sought, at_end, start, gather, next, place_ok, walk_step}
-use Rattle.walk.specs.Step.{all_columns, fits, choice_ok, belongs, cursor_at, choice_from, opened, open_with, StepResult, cursor_step, run}
+use Rattle.walk.specs.Walk.{Step, read_cell, read_row, seek, Reply, got_cell, got_row, sought, at_end, start}
+use Rattle.walk.specs.Step.{cursor_at}
+use Rattle.walk.proofs.Computed.{computed_run, ReadAs}
 
 -- the cursor on all seven columns with the heap on
 abbrev cursor : TableData
@@ -75,25 +70,7 @@ second_scaled =
 abbrev lists : List (List Cell)
 lists = [] ∷ [] ∷ first_scaled ∷ second_plain ∷ [] ∷ [] ∷ first_plain ∷ second_scaled ∷ []
 
--- the entry accepts the header and the area, opening gives this cursor, and the steps from there on hand out these
--- cells
-pub record ReadsNulls : Type 0 where
-  pub entered : entry header area ≡ accepted table
-  pub opening : open_with table area all_columns true ≡ opened cursor
-  pub reply : map (λ (o : StepResult). o.reply) (run table area cursor steps) ≡ replies
-  pub list : map (λ (o : StepResult). o.list) (run table area cursor steps) ≡ lists
-
-opens : open_with table area all_columns true ≡ opened cursor
-unfolding table open_with fits layout_ok columns_ok choice_ok choice_from letter_width among bytes
-opens = refl
-
-replied : map (λ (o : StepResult). o.reply) (run table area cursor steps) ≡ replies
-unfolding table add mul eq of_int of_bits to_bits round shifts_by run cursor_step belongs fits layout_ok columns_ok choice_ok place_ok walk_step next gather row_entries columns_entries column_entries entries_of cells chosen field_of field field32 array item word letter_width among bytes
-replied = refl
-
-listed : map (λ (o : StepResult). o.list) (run table area cursor steps) ≡ lists
-unfolding table add mul eq of_int of_bits to_bits round shifts_by run cursor_step belongs fits layout_ok columns_ok choice_ok place_ok walk_step next gather row_entries columns_entries column_entries entries_of cells chosen field_of field field32 array item word letter_width among bytes
-listed = refl
-
-pub reads_nulls : ReadsNulls
-reads_nulls = record { entered = enters; opening = opens; reply = replied; list = listed }
+-- the table of bintable/proofs/NullHeaders, in both readings
+pub reads_nulls : ReadAs header area table cursor steps replies lists
+unfolding computed_run table
+reads_nulls = record { entered = enters; opening = refl; reply = refl; list = refl }

@@ -1,40 +1,32 @@
 -- The request's example, whole, and the nine forms beside it, as one list and one theorem: what each form takes by the definition that
 -- the contracts cite, and the four cells from the bytes of the header and of the data area, by the entry, the opening and the steps.
 -- Assumes nothing.
-use Rattle.std.specs.Prelude.{Some}
 use Prim.Native.Nat.{ℕ, ◌*◌}
 use mathlib.Core.Path.{◌≡◌, refl, ap}
-use mathlib.Core.Bool.{true, false}
-use mathlib.Core.List.{List, [], ◌∷◌, ◌++◌, map, flat_map}
+use mathlib.Core.Bool.{true}
+use mathlib.Core.List.{List, [], ◌∷◌, ◌++◌, map}
 use lib.ListN.{length, get_or, replicate}
 use lib.IntN.{pos, negsuc}
-use Rattle.ascii.specs.Text.{bytes, same, front, spaces, trim, decimal}
-use Rattle.card.specs.Ends.{follows, closing}
-use Rattle.card.specs.Record.{card_at, is_end, has_value, name_of}
-use Rattle.card.specs.Value.{digits_value, integer_value, string_value, value_from, field_value, value_of}
-use Rattle.keyword.specs.Names.{range, numeral, indexed, single, once_roots, once_names, position}
-use Rattle.header.specs.Records.{records, has_end, before_end, names, repeated_after}
-use Rattle.header.specs.Checks.{bad_length, check1, check2, check3, checked, names_read}
+use Rattle.ascii.specs.Text.{bytes, front, decimal}
 use Rattle.tform.specs.declared.VariableArrayTy.TheVariants as T
 use Rattle.tform.specs.declared.TFormType.TheVariants as F
 use Rattle.tform.specs.Width.{among, letter_width}
 use Rattle.tform.specs.Form.{repeat_count, element_among, element_of, first_element, kind_of, form_of}
 use Rattle.tform.proofs.Examples.{Size, takes, bad, size_of}
 use Rattle.layout.specs.declared.BinTable.{BinTable}
-use Rattle.layout.specs.declared.Null.TheVariants.{NotGiven}
-use Rattle.layout.specs.Layout.{no_scaling, no_column, row_bytes, columns_ok, layout_ok}
-use Rattle.bintable.specs.Checks.{check16, check17, scaling_given, first_refusal}
-use Rattle.bintable.specs.Entry.{scaling_of, null_of, required, limited, theap_check, nine, nine_checks, column_check, column_checks, columns_from, layout_of, check9, check10, header_checks, all_checks, accepted, entry}
-use Rattle.header.proofs.Padded.{padded}
+use Rattle.layout.specs.Layout.{no_column}
+use Rattle.layout.proofs.Literals.{column, named}
+use Rattle.bintable.specs.Entry.{accepted, entry}
+use Rattle.header.proofs.Texts.{padded}
+use Rattle.bintable.proofs.Computed.{computed}
 use Rattle.cell.specs.declared.DataValue.TheVariants as D
 use Rattle.cell.specs.declared.Cell.{Cell}
-use Rattle.cell.specs.Item.{word, item}
-use Rattle.cell.specs.Field.{field}
 use Rattle.walk.specs.declared.TableData.{TableData}
-use Rattle.walk.specs.Plain.{field_of, cell_of, cells, entries_of, chosen, column_entries, columns_entries, row_entries}
+use Rattle.walk.specs.Plain.{cell_of}
 use Rattle.walk.specs.Scaled.{plain}
-use Rattle.walk.specs.Walk.{read_cell, Reply, got_cell, at_end, refused, start, next, place_ok, walk_step}
-use Rattle.walk.specs.Step.{all_columns, fits, choice_ok, belongs, cursor_at, choice_from, opened, open_with, StepResult, cursor_step, run}
+use Rattle.walk.specs.Walk.{read_cell, Reply, got_cell, at_end, refused, start}
+use Rattle.walk.specs.Step.{all_columns, cursor_at, opened, open_with, StepResult, run}
+use Rattle.walk.proofs.Computed.{computed_run}
 use Rattle.walk.proofs.Examples.{area}
 
 -- ---- the header of the request's example; its data area is that of Examples
@@ -71,13 +63,12 @@ table =
       theap = 12;
       tfields = 2;
       columns =
-          record { form = F.Items T.I; count = 1; start = 0; name = Some (record { start = 731; len = 3 }); scaling_given = false; scaling = no_scaling; null = NotGiven }
-          ∷ record { form = F.Items T.J; count = 1; start = 2; name = Some (record { start = 891; len = 2 }); scaling_given = false; scaling = no_scaling; null = NotGiven }
+          named 731 3 (column (F.Items T.I) 1 0) ∷ named 891 2 (column (F.Items T.J) 1 2)
           ∷ replicate 62 no_column;
     }
 
 pub enters : entry header area ≡ accepted table
-unfolding header table padded bytes same front spaces trim follows decimal closing card_at is_end has_value name_of digits_value integer_value string_value value_from field_value value_of range numeral indexed single once_roots once_names flat_map position records has_end before_end names repeated_after bad_length check1 check2 check3 checked names_read among letter_width repeat_count element_among element_of first_element kind_of form_of row_bytes first_refusal required limited theap_check nine nine_checks check16 scaling_given scaling_of check17 null_of column_check column_checks columns_from layout_of check9 check10 header_checks all_checks
+unfolding computed header table
 enters = refl
 
 -- the cursor on all columns with the heap on
@@ -85,7 +76,7 @@ abbrev pub cursor : TableData
 cursor = cursor_at 3 true start
 
 pub opens : open_with table area all_columns true ≡ opened cursor
-unfolding table open_with fits layout_ok columns_ok choice_ok choice_from letter_width among bytes
+unfolding computed_run table
 opens = refl
 
 -- ---- the examples
@@ -139,7 +130,7 @@ five =
     ∷ got_cell (cell_of 1 1 0 (D.Integer (pos 42))) ∷ at_end ∷ []
 
 read : replies table cursor ≡ five
-unfolding table run cursor_step belongs fits layout_ok columns_ok choice_ok place_ok walk_step next row_entries columns_entries column_entries entries_of cells chosen field_of field item word letter_width among bytes
+unfolding computed_run table
 read = refl
 
 reads_as : (k : ℕ) → ReadsAs k (get_or five k (refused 0 0))
