@@ -12,21 +12,22 @@ use lib.IntN.{ℤ, pos, negsuc}
 use native.Mathlib.Omega.{arith}
 use lib.ListN.{get_or}
 use Rattle.tform.specs.declared.VariableArrayTy.{VariableArrayTy}
+use Rattle.tform.specs.declared.VariableArrayTy.TheVariants as T
 use Rattle.layout.specs.declared.Null.{Null}
 use Rattle.layout.specs.declared.Null.TheVariants as N
 use Rattle.layout.specs.declared.Column.{Column}
 use Rattle.layout.specs.declared.BinTable.{BinTable}
 use Rattle.layout.specs.Layout.{data_size}
-use Rattle.tform.specs.Width.{can_have_null}
+use Rattle.tform.specs.Width.{element, can_have_null}
 use Rattle.header.specs.Records.{found}
 use Rattle.bintable.specs.Checks.{wide_at, tnull_of, null_number}
 use Rattle.bintable.specs.Entry.{null_from, null_of, entry, accepted}
 use Rattle.bintable.proofs.Nulls.{is_number, number_is, null_read}
-use Rattle.cell.specs.declared.DataValue.{DataValue}
 use Rattle.cell.specs.declared.DataValue.TheVariants as D
 use Rattle.cell.specs.Item.{width, raw_item, stored_number, item}
 use Rattle.cell.proofs.Nulls.{raw_set, unset_exactly, as_stored, descriptor_set, scaled_unset}
-use Rattle.cell.proofs.Ranges.{InRange, item_range}
+use Rattle.cell.proofs.Ranges.{Storable, stored_range}
+use Rattle.cell.proofs.Elements.{Suits, field_suits}
 use Rattle.cell.specs.declared.Cell.{Cell}
 use Rattle.cell.specs.declared.Field.{Field}
 use Rattle.cell.specs.declared.Field.TheVariants as F
@@ -37,8 +38,8 @@ use Rattle.walk.specs.Scaled.{scaled_cell}
 use Rattle.walk.specs.Walk.{Step}
 use Rattle.walk.specs.Step.{cursor_step}
 use Rattle.walk.specs.Readings.{reading_of}
-use Rattle.walk.specs.Nulls.{UnsetRightly}
-use Rattle.walk.proofs.Handed.{OfEntries, OfReply, cells_all, rows_all, rows_in, step_all}
+use Rattle.walk.specs.Nulls.{number_in, stored_of, UnsetRightly}
+use Rattle.walk.proofs.Handed.{OfEntries, OfReply, reply_implies, cells_all, rows_all, rows_in, step_all}
 
 widen_short : (z : ℤ) → FitsSigned w16 z → FitsSigned w64 z
 widen_short (pos n) f = let g = f.sfits in record { sfits = omega arith }
@@ -48,23 +49,19 @@ widen_integer : (z : ℤ) → FitsSigned w32 z → FitsSigned w64 z
 widen_integer (pos n) f = let g = f.sfits in record { sfits = omega arith }
 widen_integer (negsuc n) f = let g = f.sfits in record { sfits = omega arith }
 
--- a stored number, which an area of bytes holds, fits 64 bits with a sign
-stored_fits : (v : DataValue) → InRange v → (z : ℤ) → stored_number v ≡ Some z → FitsSigned w64 z
-stored_fits (D.UnsignedByte n) h z e = let q : pos n ≡ z = cc in subst (FitsSigned w64) q (record { sfits = omega (arith, h) })
-stored_fits (D.Short y) h z e = let q : y ≡ z = cc in subst (FitsSigned w64) q (widen_short y h)
-stored_fits (D.Integer y) h z e = let q : y ≡ z = cc in subst (FitsSigned w64) q (widen_integer y h)
-stored_fits (D.Long y) h z e = let q : y ≡ z = cc in subst (FitsSigned w64) q h
-stored_fits D.Unset h z e = cc
-stored_fits (D.Logical v) h z e = cc
-stored_fits (D.Bit n) h z e = cc
-stored_fits (D.UnsignedLong n) h z e = cc
-stored_fits (D.Character n) h z e = cc
-stored_fits (D.Float x b) h z e = cc
-stored_fits (D.Double x b) h z e = cc
-stored_fits (D.ComplexFloat x b y c) h z e = cc
-stored_fits (D.ComplexDouble x b y c) h z e = cc
-stored_fits (D.VariableLengthArray32 n o) h z e = cc
-stored_fits (D.VariableLengthArray64 n o) h z e = cc
+-- a number that a type can store fits 64 bits with a sign
+storable_fits : (ty : VariableArrayTy) (z : ℤ) → Storable ty z → FitsSigned w64 z
+storable_fits T.B z s = subst (FitsSigned w64) (sym s.1) (record { sfits = omega (arith, s.2) })
+storable_fits T.I z s = widen_short z s
+storable_fits T.J z s = widen_integer z s
+storable_fits T.K z s = s
+storable_fits T.L z s = absurd s
+storable_fits T.X z s = absurd s
+storable_fits T.A z s = absurd s
+storable_fits T.E z s = absurd s
+storable_fits T.D z s = absurd s
+storable_fits T.C z s = absurd s
+storable_fits T.M z s = absurd s
 
 module _ (a : List ℕ) (below : (i : ℕ) → get_or a i 0 < 256) (column : Column) (ty : VariableArrayTy) (p : ℕ) where
   abbrev stored : Option ℤ
@@ -76,7 +73,7 @@ module _ (a : List ℕ) (below : (i : ℕ) → get_or a i 0 < 256) (column : Col
     where
       back : stored ≡ Some z → item column ty a p ≡ D.Unset
       back s =
-          let f = stored_fits (raw_item ty a p) (item_range a below ty p) z s in
+          let f = storable_fits ty z (stored_range a below ty p z s) in
           (unset_exactly column ty a p z (e ∙ number_is z f)).1 s
 
       there : (n : Null) → column.null ≡ n → item column ty a p ≡ D.Unset → stored ≡ Some z
@@ -143,3 +140,34 @@ module _ (h a : List ℕ) (l : BinTable) (taken : entry h a ≡ accepted l) (b :
       (rows_in (λ (m : Reading). UnsetRightly h l b q.heap) l (row_entries l b q.choice q.heap) (scaled_rightly q.heap)
       (rows_all (UnsetRightly h l b q.heap) l b q.choice q.heap (λ r c hr hc e. entries_unset q.heap r c hc (field_of l b q.heap r c) refl))
       (reading_of x))
+
+  -- the stored number of a cell's item is one that its column's type can store
+  cell_storable : (heap : Bool) (y : Cell) (z : ℤ) → stored_of l b heap y ≡ Some z
+      → Storable (element (column_of l y.column).form) z
+  unfolding field_of
+  cell_storable heap y z e =
+      by (field_of l b heap y.row y.column)
+      (field_suits b (field_at l y.row y.column) (column_of l y.column) heap l.theap (data_size l)) e
+    where
+      by : (f : Field) → Suits (column_of l y.column).form heap f → number_in b f y.idx ≡ Some z
+          → Storable (element (column_of l y.column).form) z
+      by (F.Items ty at n) s e =
+          subst (λ (t : VariableArrayTy). Storable t z) s.0 (stored_range b below ty (at + y.idx * width ty) z e)
+      by (F.Descriptor v) s e = cc
+      by F.OutsideHeap s e = cc
+
+  -- an integer of TNULLn that the column's type cannot store is that of no cell: none of its column is unset
+  abbrev pub SetOutside : Cell → Type 0
+  SetOutside y =
+      (z : ℤ) → null_number h (y.column + 1) ≡ Some z → (Storable (element (column_of l y.column).form) z → ⊥)
+      → y.value ≡ D.Unset → ⊥
+
+  pub handed_outside : (q : TableData) (x : Step)
+      → OfReply SetOutside (cursor_step l b q x).list (cursor_step l b q x).reply
+  handed_outside q x =
+      reply_implies (UnsetRightly h l b q.heap) SetOutside each (cursor_step l b q x).list (cursor_step l b q x).reply
+      (handed_unset q x)
+    where
+      each : (y : Cell) → UnsetRightly h l b q.heap y → SetOutside y
+      each y w z e out u =
+          let s = w.0 u in let same : s.0 ≡ z = cc in out (cell_storable q.heap y z (s.3 ∙ ap Some same))

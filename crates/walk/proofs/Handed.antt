@@ -160,3 +160,16 @@ pub rows_in : (P : Reading → Cell → Type 0) (l : BinTable) (rows : ℕ → L
     → ((r : ℕ) → OfEntries (P Plain) (rows r)) → (m : Reading) (r : ℕ) → OfEntries (P m) (in_reading l m rows r)
 rows_in P l rows f all Plain r = all r
 rows_in P l rows f all Scaled r = in_reading_all (P Plain) (P Scaled) l f (rows r) (all r)
+
+-- what follows from a property of a cell, of the cells that a step hands out
+module _ (P Q : Cell → Type 0) (f : (c : Cell) → P c → Q c) where
+  cells_imply : (cs : List Cell) → OfCells P cs → OfCells Q cs
+  cells_imply [] h = tt
+  cells_imply (c ∷ cs) h = (f c h.0, cells_imply cs h.1)
+
+  pub reply_implies : (list : List Cell) (y : Reply) → OfReply P list y → OfReply Q list y
+  reply_implies list (got_cell c) h = f c h
+  reply_implies list (got_row k) h = cells_imply (take k list) h
+  reply_implies list sought h = tt
+  reply_implies list at_end h = tt
+  reply_implies list (refused n p) h = tt
