@@ -25,6 +25,7 @@ use Rattle.walk.specs.Scaled.{scaled_entry, in_reading}
 use Rattle.walk.specs.Walk.{entries_from}
 use Rattle.walk.specs.Step.{Selection, all_columns, wanted, choice_of}
 use Rattle.walk.specs.Narrow.{entry_column, struck}
+use Rattle.std.proofs.lemmas.List.Elements.{filter-append}
 use Rattle.walk.proofs.Choice.{chosen_of}
 
 -- the layout's columns that a selection's choice has are those that are wanted: of all columns, each
@@ -36,41 +37,33 @@ wanted_chosen l sel c h = chosen_of l sel c ∙ rw (lt-ltb c l.tfields h)
 module _ (keep : ℕ → Bool) where
   cells_stay : (r c : ℕ) (v : ℕ → DataValue) (i n : ℕ) → keep c ≡ true
       → struck keep (cells r c v i n) ≡ cells r c v i n
-  unfolding struck cells
+  unfolding cells
   cells_stay r c v i zero t = refl
   cells_stay r c v i (suc n) t = rw (t, cells_stay r c v (suc i) n t)
 
   cells_go : (r c : ℕ) (v : ℕ → DataValue) (i n : ℕ) → keep c ≡ false → struck keep (cells r c v i n) ≡ []
-  unfolding struck cells
+  unfolding cells
   cells_go r c v i zero t = refl
   cells_go r c v i (suc n) t = rw (t, cells_go r c v (suc i) n t)
 
   module _ (column : Column) (a : List ℕ) (r c : ℕ) where
     field_stays : (f : Field) → keep c ≡ true → struck keep (entries_of column a r c f) ≡ entries_of column a r c f
-    unfolding struck entries_of
+    unfolding entries_of
     field_stays (F.Items ty at n) t = cells_stay r c (item_at column a ty at) 0 n t
     field_stays (F.Descriptor v) t = rw t
     field_stays F.OutsideHeap t = rw t
 
     field_goes : (f : Field) → keep c ≡ false → struck keep (entries_of column a r c f) ≡ []
-    unfolding struck entries_of
+    unfolding entries_of
     field_goes (F.Items ty at n) t = cells_go r c (item_at column a ty at) 0 n t
     field_goes (F.Descriptor v) t = rw t
     field_goes F.OutsideHeap t = rw t
 
   -- ---- lists of entries
 
-  -- what is struck out of two lists together is what is struck out of each
-  struck_append : (es fs : List Entry) → struck keep (es ++ fs) ≡ struck keep es ++ struck keep fs
-  unfolding struck
-  struck_append [] fs = refl
-  struck_append (e ∷ es) fs =
-      either (keep (entry_column e)) (λ t. rw (t, struck_append es fs)) (λ t. rw (t, struck_append es fs))
-
   -- an entry keeps its column in the other reading, so scaling may come before or after
   struck_scaled : (l : BinTable) (es : List Entry)
       → map (scaled_entry l) (struck keep es) ≡ struck keep (map (scaled_entry l) es)
-  unfolding struck
   struck_scaled l [] = refl
   struck_scaled l (E.Cell x ∷ es) =
       either (keep x.column) (λ t. rw (t, struck_scaled l es)) (λ t. rw (t, struck_scaled l es))
@@ -86,10 +79,10 @@ module _ (keep : ℕ → Bool) where
   -- rows that are each struck out, one after the other
   struck_rows : (all some : ℕ → List Entry) → ((r : ℕ) → some r ≡ struck keep (all r))
       → (n r k : ℕ) → entries_from some n r k ≡ struck keep (entries_from all n r k)
-  unfolding entries_from struck
+  unfolding entries_from
   struck_rows all some e n r zero = refl
   struck_rows all some e n r (suc k) =
-      ap₂ ◌++◌ (e r) (struck_rows all some e n (suc r) k) ∙ sym (struck_append (all r) (entries_from all n (suc r) k))
+      ap₂ ◌++◌ (e r) (struck_rows all some e n (suc r) k) ∙ sym (filter-append (λ (e : Entry). keep (entry_column e)) (all r) (entries_from all n (suc r) k))
 
 -- ---- a choice, and a test that says of the layout's columns which are in it
 
@@ -113,15 +106,15 @@ module _ (l : BinTable) (a : List ℕ) (heap : Bool) (choice : ℕ) (keep : ℕ 
 
   columns_struck : (r c n : ℕ) → c + n ≤ l.tfields
       → columns_entries l a choice heap r c n ≡ struck keep (columns_entries l a (choice_of l all_columns) heap r c n)
-  unfolding columns_entries struck
+  unfolding columns_entries
   columns_struck r c zero h = refl
   columns_struck r c (suc n) h =
       let full = choice_of l all_columns in
       ap₂ ◌++◌ (column_struck r c (omega arith)) (columns_struck r (suc c) n (omega arith))
-      ∙ sym (struck_append keep (column_entries l a full heap r c) (columns_entries l a full heap r (suc c) n))
+      ∙ sym (filter-append (λ (e : Entry). keep (entry_column e)) (column_entries l a full heap r c) (columns_entries l a full heap r (suc c) n))
 
   row_struck : (r : ℕ) → some r ≡ struck keep (all r)
-  unfolding row_entries struck
+  unfolding row_entries
   row_struck r =
       either (ltb r l.naxis2) (λ t. rw t (columns_struck r 0 l.tfields (omega arith))) (λ t. rw t)
 

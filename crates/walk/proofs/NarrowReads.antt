@@ -33,18 +33,16 @@ use Rattle.walk.proofs.Narrow.{narrow_list}
 
 -- the end and a 13 hand out no cell, however often they are answered
 none_at_end : (m : ℕ) → cells_in (answers_to m []) ≡ []
-unfolding cells_in
 none_at_end zero = refl
 none_at_end (suc m) = none_at_end m
 
 none_at_13 : (m k : ℕ) (es : List Entry) → cells_in (answers_to m (E.OutsideHeap k ∷ es)) ≡ []
-unfolding cells_in
 none_at_13 zero k es = refl
 none_at_13 (suc m) k es = none_at_13 m k es
 
 -- enough cell reads hand out the cells before the first 13
 cells_read : (m : ℕ) (es : List Entry) → length es ≤ m → cells_in (answers_to m es) ≡ cells_before_13 es
-unfolding cells_in cells_before_13
+unfolding cells_before_13
 cells_read m [] h = none_at_end m
 cells_read m (E.OutsideHeap k ∷ es) h = none_at_13 m k es
 cells_read zero (E.Cell x ∷ es) h = absurd (omega (arith, h))
@@ -63,7 +61,7 @@ module _ (keep : ℕ → Bool) where
   cells_narrow : (es : List Entry)
       → cells_before_13 (struck keep es)
       ≡ struck_cells keep (cells_before_13 es) ++ cells_before_13 (struck keep (behind_13 keep es))
-  unfolding struck struck_cells cells_before_13 behind_13
+  unfolding cells_before_13 behind_13
   cells_narrow [] = refl
   cells_narrow (E.Cell x ∷ es) =
       either (keep x.column) (λ t. rw (t, cells_narrow es)) (λ t. rw (t, cells_narrow es))
@@ -79,7 +77,7 @@ module _ (keep : ℕ → Bool) where
   -- and then there is nothing to add
   nothing_behind : (xs : List Cell) (es : List Entry) → es ≡ []
       → struck_cells keep xs ++ cells_before_13 (struck keep es) ≡ struck_cells keep xs
-  unfolding struck cells_before_13
+  unfolding cells_before_13
   nothing_behind xs es e = rw e (append-nil (struck_cells keep xs))
 
   -- where the first 13 is one of a column that is struck out, the list is the cells before it, that 13, and what is

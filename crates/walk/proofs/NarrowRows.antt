@@ -40,17 +40,15 @@ module _ (keep : ℕ → Bool) where
   Narrowed (outside k) g = keep k ≡ true → g ≡ outside k
 
   before_stays : (x : Cell) (g u : Gathered) → keep x.column ≡ true → Narrowed g u → Narrowed (before x g) (before x u)
-  unfolding struck_cells
   before_stays x (all_cells xs) u t h = rw (t, h)
   before_stays x (outside k) u t h = λ q. rw (h q)
 
   before_goes : (x : Cell) (g u : Gathered) → keep x.column ≡ false → Narrowed g u → Narrowed (before x g) u
-  unfolding struck_cells
   before_goes x (all_cells xs) u t h = rw t h
   before_goes x (outside k) u t h = h
 
   narrowed : (es : List Entry) → Narrowed (gather es) (gather (struck keep es))
-  unfolding gather struck struck_cells
+  unfolding gather
   narrowed [] = refl
   narrowed (E.Cell x ∷ es) =
       either (keep x.column)

@@ -165,7 +165,7 @@ unfolding computed_run area
 opens_all = refl
 
 reads : (m : Reading) → NarrowReading (record { reading = m })
-unfolding computed_run area struck struck_cells cells_in cells_before_13 behind_13
+unfolding computed_run area cells_before_13 behind_13
 reads Plain = (refl, refl, refl, refl, refl, refl, refl, refl, refl)
 reads Scaled = (refl, refl, refl, refl, refl, refl, refl, refl, refl)
 

@@ -1,7 +1,7 @@
--- A narrow choice beside all columns: a plain list with the entries of some columns struck out (FORMAT.md, section 12),
--- and the cells that cell reads of a list hand out (section 13).
+-- A narrow choice beside all columns: a plain list with the entries of some columns struck out (FORMAT.md, section
+-- 12), and the cells that cell reads of a list hand out (section 13).
 -- Assumes nothing.
-use Rattle.std.specs.Prelude.{ℕ, Bool, cond, List, [], ◌∷◌, ◌++◌}
+use Rattle.std.specs.Prelude.{ℕ, Bool, cond, List, [], ◌∷◌, filter, flat_map}
 use Rattle.cell.specs.declared.Cell.{Cell}
 use Rattle.walk.specs.declared.Entry.{Entry}
 use Rattle.walk.specs.declared.Entry.TheVariants as E
@@ -14,14 +14,12 @@ entry_column (E.OutsideHeap k) = k
 
 -- the request's term "struck out": some entries without those of the columns that do not pass a test. The others stay,
 -- 13s too, in their order
-unfoldable pub struck : (ℕ → Bool) → List Entry → List Entry
-struck keep [] = []
-struck keep (e ∷ es) = cond (keep (entry_column e)) (e ∷ struck keep es) (struck keep es)
+abbrev pub struck : (ℕ → Bool) → List Entry → List Entry
+struck keep es = filter (λ (e : Entry). keep (entry_column e)) es
 
 -- the same of cells
-unfoldable pub struck_cells : (ℕ → Bool) → List Cell → List Cell
-struck_cells keep [] = []
-struck_cells keep (x ∷ xs) = cond (keep x.column) (x ∷ struck_cells keep xs) (struck_cells keep xs)
+abbrev pub struck_cells : (ℕ → Bool) → List Cell → List Cell
+struck_cells keep xs = filter (λ (x : Cell). keep x.column) xs
 
 -- the cell that an answer has; those of a row read stand in its list
 abbrev pub cell_answered : Reply → List Cell
@@ -32,9 +30,8 @@ cell_answered at_end = []
 cell_answered (refused n p) = []
 
 -- the cells among some answers, in their order
-unfoldable pub cells_in : List Reply → List Cell
-cells_in [] = []
-cells_in (y ∷ ys) = cell_answered y ++ cells_in ys
+abbrev pub cells_in : List Reply → List Cell
+cells_in ys = flat_map cell_answered ys
 
 -- the cells before the first 13 of some entries
 unfoldable pub cells_before_13 : List Entry → List Cell
