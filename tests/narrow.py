@@ -7,9 +7,9 @@ From the repository's root:
         runs the two built programs, crates/cells/out/cells and crates/replay/out/replay, on a random table for each
         number from A to B (0 to 999 if not given)
 
-A choice beside all columns: of each table that is accepted a few columns are chosen, and `replay` reads it by these and
-by all columns, cell by cell until the end or a 13, and each row from its start. What the reads of all columns hand out,
-less the lines of the other columns, is what the reads of the choice must hand out (docs/FORMAT.md, section 13).
+A choice beside all columns: of each table that is accepted a few columns are chosen, and `replay` reads it by these
+and by all columns, cell by cell until the end or a 13, and each row from its start. What the reads of all columns hand
+out, less the lines of the other columns, is what the reads of the choice must hand out (docs/FORMAT.md, section 13).
 
 A header that becomes another one: the records before END that hold no used name become others of that sort, and so do
 the bytes behind END (section 4). `cells` and `replay` must print the same, refusals too.
@@ -186,7 +186,7 @@ def with_neighbour(chosen):
     return lambda line: column_of(line) in chosen or column_of(line) + 1 in chosen
 
 
-def in_another_order(chosen):
+def last_alone(chosen):
     return lambda line: column_of(line) == chosen[-1]
 
 
@@ -195,7 +195,7 @@ def forgets(*names):
     return lambda card: not is_used(card) or name_of(card).startswith(names)
 
 
-RULES = {'a neighbour stays': with_neighbour, 'one column stays': in_another_order}
+RULES = {'a neighbour stays': with_neighbour, 'one column stays': last_alone}
 RELATIONS = {'TNULL is unused': (b'TNULL',), 'TSCAL and TZERO are unused': (b'TSCAL', b'TZERO'),
              'TTYPE is unused': (b'TTYPE',)}
 

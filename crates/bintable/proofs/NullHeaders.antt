@@ -17,7 +17,7 @@ use Rattle.layout.specs.declared.Null.TheVariants as N
 use Rattle.layout.specs.declared.Column.{Column}
 use Rattle.layout.specs.declared.BinTable.{BinTable}
 use Rattle.layout.specs.Layout.{no_column}
-use Rattle.layout.proofs.Literals.{column, scaled_by, with_null}
+use Rattle.layout.proofs.Literals.{column, and_scaling, and_null}
 use Rattle.bintable.specs.Checks.{check17}
 use Rattle.bintable.specs.Entry.{column_check, accepted, refused, entry}
 use Rattle.header.proofs.Texts.{padded, first_records}
@@ -59,11 +59,11 @@ double bits = of_bits binary64 bits
 
 -- a column of one item, with a null
 abbrev item : TFormType → ℕ → Null → Column
-item f at n = with_null n (column f 1 at)
+item f at n = and_null n (column f 1 at)
 
 -- and with the factor and the zero that some bits are
 abbrev scaled_item : TFormType → ℕ → ℕ → ℕ → Null → Column
-scaled_item f at factor_bits zero_bits n = scaled_by (double factor_bits) (double zero_bits) (item f at n)
+scaled_item f at factor_bits zero_bits n = and_scaling (double factor_bits) (double zero_bits) (item f at n)
 
 -- the zeros 32768 and -128, and the factor 2
 unfoldable pub table : BinTable

@@ -14,7 +14,7 @@ use Rattle.tform.specs.declared.VariableArrayTy.TheVariants as T
 use Rattle.tform.specs.declared.TFormType.TheVariants as F
 use Rattle.layout.specs.declared.BinTable.{BinTable}
 use Rattle.layout.specs.Layout.{no_column}
-use Rattle.layout.proofs.Literals.{column, scaled_by}
+use Rattle.layout.proofs.Literals.{column, and_scaling}
 use Rattle.bintable.specs.Checks.{check16}
 use Rattle.bintable.specs.Entry.{column_check, accepted, refused, entry}
 
@@ -46,8 +46,8 @@ table =
       theap = 12;
       tfields = 2;
       columns =
-          scaled_by (double 0x3FF0000000000000) (double 0x40E0000000000000) (column (F.Items T.I) 1 0)
-          ∷ scaled_by (double 0x4000000000000000) (double 0x3FD0000000000000) (column (F.Items T.E) 1 2)
+          and_scaling (double 0x3FF0000000000000) (double 0x40E0000000000000) (column (F.Items T.I) 1 0)
+          ∷ and_scaling (double 0x4000000000000000) (double 0x3FD0000000000000) (column (F.Items T.E) 1 2)
           ∷ replicate 62 no_column;
     }
 

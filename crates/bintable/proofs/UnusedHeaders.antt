@@ -18,7 +18,7 @@ use Rattle.tform.specs.declared.TFormType.TheVariants as F
 use Rattle.layout.specs.declared.Null.TheVariants as N
 use Rattle.layout.specs.declared.BinTable.{BinTable}
 use Rattle.layout.specs.Layout.{no_column}
-use Rattle.layout.proofs.Literals.{column, named, with_null}
+use Rattle.layout.proofs.Literals.{column, and_name, and_null}
 use Rattle.layout.specs.Names.{part_of, column_name, undoubled, first_column, find_name}
 use Rattle.bintable.specs.Entry.{accepted, refused, entry}
 use Rattle.header.proofs.Texts.{padded, fixed, first_records}
@@ -89,8 +89,8 @@ table =
       theap = 12;
       tfields = 2;
       columns =
-          named 811 3 (column (F.Items T.I) 1 0)
-          ∷ named 1051 2 (with_null (N.Number (negsuc 0)) (column (F.Items T.J) 1 2))
+          and_name 811 3 (column (F.Items T.I) 1 0)
+          ∷ and_name 1051 2 (and_null (N.Number (negsuc 0)) (column (F.Items T.J) 1 2))
           ∷ replicate 62 no_column;
     }
 

@@ -22,6 +22,7 @@ use Rattle.header.specs.Unused.{unused, may_become, all_may_become, header_may_b
 abbrev pub Used : List ℕ → Type 0
 Used u = found (position u used_names) ≡ true
 
+-- no place is none
 pub not_found : (f : Option ℕ) → found f ≡ false → f ≡ None
 not_found (Some k) e = cc
 not_found None e = refl
@@ -29,6 +30,7 @@ not_found None e = refl
 -- ---- one record
 
 module _ (r : List ℕ) (e : unused r ≡ true) where
+  -- an unused record is not END, and has no name that is used, so none that must not stand twice
   pub no_end : is_end r ≡ false
   unfolding unused
   no_end = either (is_end r) (λ t. let q = rw t at e in cc) (λ t. t)
@@ -57,6 +59,7 @@ by_record r s e f g =
     (λ u. let q = rw (t, u) at e in cc))
 
 module _ (r s : List ℕ) (e : may_become r s ≡ true) where
+  -- both are END or neither, and have the same used name or none
   pub end_same : is_end r ≡ is_end s
   end_same = by_record r s e (ap is_end) (λ t u. no_end r t ∙ sym (no_end s u))
 
@@ -101,6 +104,7 @@ by_records P none end more (r ∷ rs) (s ∷ ss) e =
 -- ---- the header
 
 module _ (h g : List ℕ) (e : header_may_become h g ≡ true) where
+  -- the two parts of the relation
   pub length_same : length h ≡ length g
   unfolding header_may_become
   length_same =
@@ -140,7 +144,7 @@ all_back =
     by_records (λ rs ss. all_may_become ss rs ≡ true) refl (λ r s rs ss f t u. rw (record_back r s f, u))
     (λ r s rs ss f t u back. rw (record_back r s f, u, back))
 
--- and go back
+-- if one header may become another, that one may become it
 pub header_back : (h g : List ℕ) → header_may_become h g ≡ true → header_may_become g h ≡ true
 unfolding header_may_become
 header_back h g e =
@@ -170,7 +174,7 @@ all_on =
     more r s rs ss f t u on [] d = cc
     more r s rs ss f t u on (x ∷ ts) d = rw (record_on r s x f (first s x ss ts d), t, on ts (others s x ss ts d u))
 
--- and one that becomes another may become what that one may
+-- and it may become what that one may
 pub header_on : (h g f : List ℕ) → header_may_become h g ≡ true → header_may_become g f ≡ true
     → header_may_become h f ≡ true
 unfolding header_may_become

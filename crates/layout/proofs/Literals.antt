@@ -24,8 +24,8 @@ column f n at =
     }
 
 -- the same with a name, which is the stretch of the header from byte `start` on
-abbrev pub named : ℕ → ℕ → Column → Column
-named start len c =
+abbrev pub and_name : ℕ → ℕ → Column → Column
+and_name start len c =
     record {
       form = c.form;
       count = c.count;
@@ -37,8 +37,8 @@ named start len c =
     }
 
 -- with a factor and a zero
-abbrev pub scaled_by : Float → Float → Column → Column
-scaled_by factor zero c =
+abbrev pub and_scaling : Float → Float → Column → Column
+and_scaling factor zero c =
     record {
       form = c.form;
       count = c.count;
@@ -50,8 +50,8 @@ scaled_by factor zero c =
     }
 
 -- and with a null
-abbrev pub with_null : Null → Column → Column
-with_null n c =
+abbrev pub and_null : Null → Column → Column
+and_null n c =
     record {
       form = c.form;
       count = c.count;

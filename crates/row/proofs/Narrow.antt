@@ -4,7 +4,7 @@
 use Rattle.std.specs.Prelude.{Option, Some, Result, Ok}
 use Prim.Native.Nat.{ℕ, ◌≤◌, ◌<◌}
 use mathlib.Core.Path.{◌≡◌, sym, ap, ◌∙◌}
-use mathlib.Core.Bool.{Bool}
+use mathlib.Core.Bool.{Bool, true}
 use mathlib.Core.List.{List, ◌++◌, map}
 use lib.ListN.{length, take, drop, replicate}
 use Rattle.refusal.specs.declared.Refusal.{Refusal}
@@ -13,12 +13,12 @@ use Rattle.bintable.proofs.Kept.{parsed_entry}
 use Rattle.cell.specs.declared.Cell.{Cell}
 use Rattle.walk.specs.declared.TableData.{TableData}
 use Rattle.walk.specs.declared.How.{How}
-use Rattle.walk.specs.Walk.{read_cell}
+use Rattle.walk.specs.Walk.{read_cell, refused}
 use Rattle.walk.specs.Step.{Selection, all_columns, wanted, choice_of, cursor_at, StepResult, row_reply}
 use Rattle.walk.specs.Narrow.{struck, struck_cells, cells_in, cells_before_13, behind_13}
 use Rattle.walk.proofs.Answers.{row_reply_decides}
 use Rattle.walk.proofs.NarrowReads.{table_entries, narrow_cells}
-use Rattle.walk.proofs.NarrowRows.{at_row, narrow_row}
+use Rattle.walk.proofs.NarrowRows.{at_row, narrow_row, narrow_row_13}
 use Rattle.row.specs.Ran.{Ran, EntryEnsures, OpenEnsures, LentRowEnsures}
 use Rattle.row.proofs.Runs.{ran_run}
 
@@ -62,3 +62,14 @@ module _ (h a : List ℕ) (l : BinTable) (sel : Selection) (heap : Bool) (c d : 
         row_reply_decides some (Ok (Some k)) (ap (λ (o : StepResult). o.reply) e' ∙ w.1.0),
         ap (λ (o : StepResult). o.list) e' ∙ w.1.1,
       )
+
+  -- and where the read of all columns answers the 13 of a chosen column, so does that of the choice
+  pub narrow_row_13_run : (r : ℕ) → r < l.naxis2 → (i j : ℕ) (u v after_u after_v : List Cell)
+      (moved_all moved : TableData) (all some : Result (Option ℕ) Refusal) (k : ℕ)
+      → LentRowEnsures l a (cursor_at (choice_of l all_columns) heap (at_row r i)) moved_all how u after_u all
+      → LentRowEnsures l a (cursor_at (choice_of l sel) heap (at_row r j)) moved how v after_v some
+      → wanted sel k ≡ true → row_reply all ≡ refused 13 k → row_reply some ≡ refused 13 k
+  narrow_row_13_run r low i j u v after_u after_v moved_all moved all some k e e' kept said =
+      ap (λ (o : StepResult). o.reply) e'
+      ∙ narrow_row_13 h a l (parsed_entry h a l entered) sel heap c d (sym opened_some) (sym opened_all) how r low i j u v k
+      kept (sym (ap (λ (o : StepResult). o.reply) e) ∙ said)

@@ -38,7 +38,7 @@ use Rattle.walk.specs.Scaled.{scaled_cell}
 use Rattle.walk.specs.Walk.{Step}
 use Rattle.walk.specs.Step.{cursor_step}
 use Rattle.walk.specs.Readings.{reading_of}
-use Rattle.walk.specs.Nulls.{number_in, stored_of, UnsetRightly}
+use Rattle.walk.specs.Nulls.{stored_in, stored_of, UnsetRightly}
 use Rattle.walk.proofs.Handed.{OfEntries, OfReply, reply_implies, cells_all, rows_all, rows_in, step_all}
 
 widen_short : (z : ℤ) → FitsSigned w16 z → FitsSigned w64 z
@@ -149,7 +149,7 @@ module _ (h a : List ℕ) (l : BinTable) (taken : entry h a ≡ accepted l) (b :
       by (field_of l b heap y.row y.column)
       (field_suits b (field_at l y.row y.column) (column_of l y.column) heap l.theap (data_size l)) e
     where
-      by : (f : Field) → Suits (column_of l y.column).form heap f → number_in b f y.idx ≡ Some z
+      by : (f : Field) → Suits (column_of l y.column).form heap f → stored_in b f y.idx ≡ Some z
           → Storable (element (column_of l y.column).form) z
       by (F.Items ty at n) s e =
           subst (λ (t : VariableArrayTy). Storable t z) s.0 (stored_range b below ty (at + y.idx * width ty) z e)

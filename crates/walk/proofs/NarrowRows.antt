@@ -70,10 +70,10 @@ module _ (keep : ℕ → Bool) where
 
 module _ (rows : ℕ → List Entry) (n : ℕ) (s : State) (how : How) (list : List Cell) where
   -- a number: the list then begins with so many cells, which are all that was left
-  stored : (g : Gathered) (k : ℕ) → let o = row_outcome rows n s how list g in o.reply ≡ got_row k
+  row_stored : (g : Gathered) (k : ℕ) → let o = row_outcome rows n s how list g in o.reply ≡ got_row k
       → (g ≡ all_cells (take k o.list)) × (length (take k o.list) ≡ k)
-  stored (outside j) k e = absurd cc
-  stored (all_cells xs) k e =
+  row_stored (outside j) k e = absurd cc
+  row_stored (all_cells xs) k e =
       either (leb (length xs) (length list)) (λ t. fits_in t (rw t at e)) (λ t. absurd (too_long (rw t at e)))
     where
       fits_in : leb (length xs) (length list) ≡ true → got_row (length xs) ≡ got_row k
@@ -157,7 +157,7 @@ module _ (h a : List ℕ) (l : BinTable) (e : entry h a ≡ accepted l) (sel : S
   narrow_row i j u v n q room =
       let all = gathers h a l e all_columns heap d od how r low i u in
       let said = sym (ap (λ (o : StepResult). o.reply) all) ∙ q in
-      let g = stored full_rows l.naxis2 (at_row r i) how u (gather (full_rows r)) n said in
+      let g = row_stored full_rows l.naxis2 (at_row r i) how u (gather (full_rows r)) n said in
       let front = ap (λ (o : StepResult). take n o.list) all in
       let xs = take n (row_read l a all_columns heap how (at_row r i) u).list in (
         ap length front ∙ g.1,

@@ -15,7 +15,7 @@ use Rattle.tform.specs.Form.{repeat_count, element_among, element_of, first_elem
 use Rattle.tform.proofs.Examples.{Size, takes, bad, size_of}
 use Rattle.layout.specs.declared.BinTable.{BinTable}
 use Rattle.layout.specs.Layout.{no_column}
-use Rattle.layout.proofs.Literals.{column, named}
+use Rattle.layout.proofs.Literals.{column, and_name}
 use Rattle.bintable.specs.Entry.{accepted, entry}
 use Rattle.header.proofs.Texts.{padded}
 use Rattle.bintable.proofs.Computed.{computed}
@@ -63,7 +63,7 @@ table =
       theap = 12;
       tfields = 2;
       columns =
-          named 731 3 (column (F.Items T.I) 1 0) ∷ named 891 2 (column (F.Items T.J) 1 2)
+          and_name 731 3 (column (F.Items T.I) 1 0) ∷ and_name 891 2 (column (F.Items T.J) 1 2)
           ∷ replicate 62 no_column;
     }
 

@@ -22,7 +22,7 @@ use Rattle.cell.specs.Item.{width}
 use Rattle.cell.proofs.Nulls.{as_stored}
 use Rattle.walk.specs.declared.Entry.{Entry}
 use Rattle.walk.specs.Plain.{column_of, field_of, chosen, item_at, entries_of, column_entries, columns_entries, row_entries}
-use Rattle.walk.specs.Stored.{stored_at, stored_entries, stored_columns, stored_row}
+use Rattle.walk.specs.Stored.{stored_item, stored_entries, stored_columns, stored_row}
 use Rattle.walk.specs.Walk.{Step, start, walk}
 use Rattle.walk.specs.Step.{plain_walk}
 use Rattle.walk.proofs.Same.{cells_same}
@@ -35,7 +35,7 @@ module _ (l : BinTable) (a : List ℕ) (choice : ℕ) (heap : Bool) (none : (c :
   entries_stored : (r c : ℕ) (f : Field) → c < l.tfields → entries_of (column_of l c) a r c f ≡ stored_entries a r c f
   unfolding entries_of stored_entries
   entries_stored r c (F.Items ty at n) h =
-      cells_same r c (item_at (column_of l c) a ty at) (stored_at a ty at) 0 n
+      cells_same r c (item_at (column_of l c) a ty at) (stored_item a ty at) 0 n
       (λ j u. as_stored (column_of l c) ty a (at + j * width ty) (none c h))
   entries_stored r c (F.Descriptor v) h = refl
   entries_stored r c F.OutsideHeap h = refl

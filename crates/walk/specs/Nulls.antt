@@ -13,14 +13,14 @@ use Rattle.cell.specs.Item.{width, raw_item, stored_number}
 use Rattle.walk.specs.Plain.{column_of, field_of}
 
 -- the stored number of the item at an index of a field; only items of B, I, J and K have one
-abbrev pub number_in : List ℕ → Field → ℕ → Option ℤ
-number_in a (F.Items ty at n) i = stored_number (raw_item ty a (at + i * width ty))
-number_in a (F.Descriptor v) i = None
-number_in a F.OutsideHeap i = None
+abbrev pub stored_in : List ℕ → Field → ℕ → Option ℤ
+stored_in a (F.Items ty at n) i = stored_number (raw_item ty a (at + i * width ty))
+stored_in a (F.Descriptor v) i = None
+stored_in a F.OutsideHeap i = None
 
 -- that of the item that a cell is of
 abbrev pub stored_of : BinTable → List ℕ → Bool → Cell → Option ℤ
-stored_of l a heap y = number_in a (field_of l a heap y.row y.column) y.idx
+stored_of l a heap y = stored_in a (field_of l a heap y.row y.column) y.idx
 
 -- a cell is unset just where its column's items are of B, I, J or K, TNULLn gives an integer and this is the stored number of
 -- its item

@@ -13,12 +13,12 @@ use Rattle.walk.specs.declared.Entry.TheVariants as E
 use Rattle.walk.specs.Plain.{field_of, cell_of, cells, chosen}
 
 -- item i of those that lie from byte `at` on
-abbrev pub stored_at : List ℕ → VariableArrayTy → ℕ → ℕ → DataValue
-stored_at a ty at i = raw_item ty a (at + i * width ty)
+abbrev pub stored_item : List ℕ → VariableArrayTy → ℕ → ℕ → DataValue
+stored_item a ty at i = raw_item ty a (at + i * width ty)
 
 -- the entries of a field of row r and column c
 unfoldable pub stored_entries : List ℕ → ℕ → ℕ → Field → List Entry
-stored_entries a r c (F.Items ty at n) = cells r c (stored_at a ty at) 0 n
+stored_entries a r c (F.Items ty at n) = cells r c (stored_item a ty at) 0 n
 stored_entries a r c (F.Descriptor v) = E.Cell (cell_of r c 0 v) ∷ []
 stored_entries a r c F.OutsideHeap = E.OutsideHeap c ∷ []
 
