@@ -8,7 +8,6 @@ ghost use Rattle.std.specs.List.{IsSplitAt};
 ghost use Rattle.case_file.specs.Number.{front_number};
 
 use refusal::Refusal;
-use std::io;
 use std::marker::PhantomData;
 
 // The number that the first four bytes say, high byte first, and what stands after it; none where there are fewer.
@@ -31,12 +30,12 @@ pub fn split_block(bytes: &[u8]) -> Option<(&[u8], &[u8])>
     rest.split_at_checked(len as usize)
 }
 
-// Prints what the checks come to: the refusal, or the word where there is none.
-pub fn print_check(rt: &impl Print, refusal: Option<Refusal>, passed: &str) -> io::Result<()> {
-    match refusal {
+// Prints what the checks come to: the refusal, or the word where there is none. A write that fails is passed over.
+pub fn print_check(rt: &impl Print, refusal: Option<Refusal>, passed: &str) {
+    let _ = match refusal {
         None => println!(rt; "{passed}"),
         Some(refusal) => println!(rt; "{refusal}"),
-    }
+    };
 }
 
 // A case of a file.
@@ -45,8 +44,8 @@ pub trait Case<'a>: Sized {
     fn split(bytes: &'a [u8]) -> Option<(Self, &'a [u8])>
         ensures shorter { IfSome result (λ p. length p.1.now < length bytes.now) };
 
-    // Prints it under its number.
-    fn print(self, rt: &HostRuntime, number: usize) -> io::Result<()>;
+    // Prints it under its number. A write that fails is passed over, and what follows it is still written.
+    fn print(self, rt: &HostRuntime, number: usize);
 }
 
 // The cases of a file, one after the other. A last one that is cut short comes as `None`, and nothing after it.
@@ -89,12 +88,13 @@ impl<'a, C: Case<'a>> Iterator for Cases<'a, C> {
 
 // Prints each case of a file, by its number from 0, and `cut` after them where the last one is cut short. The file's
 // bytes outlive its cases, so they are the caller's.
-pub fn print_cases<'a, C: Case<'a>>(rt: &HostRuntime, file: &'a [u8]) -> io::Result<()> {
+pub fn print_cases<'a, C: Case<'a>>(rt: &HostRuntime, file: &'a [u8]) {
     for (number, case) in Cases::<C>::new(file).enumerate() {
         match case {
-            Some(case) => case.print(rt, number)?,
-            None => println!(rt; "cut")?,
+            Some(case) => case.print(rt, number),
+            None => {
+                let _ = println!(rt; "cut");
+            }
         }
     }
-    Ok(())
 }

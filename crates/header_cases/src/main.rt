@@ -25,16 +25,16 @@ impl fmt::Display for Shown {
 }
 
 // The line of a slot that has a record.
-fn print_slot(rt: &impl Print, header: &[u8], slot: usize, entry: Entry) -> io::Result<()> {
+fn print_slot(rt: &impl Print, header: &[u8], slot: usize, entry: Entry) {
     let Some(record) = entry.first else {
-        return Ok(());
+        return;
     };
     let value = Shown(card::parse_value(header, record as usize));
-    print!(rt; "slot {slot} record {record} {value}")?;
+    let _ = print!(rt; "slot {slot} record {record} {value}");
     if let Some(again) = entry.second {
-        print!(rt; " again {again}")?;
+        let _ = print!(rt; " again {again}");
     }
-    println!(rt; "")
+    let _ = println!(rt; "");
 }
 
 #[derive(Clone, Copy)]
@@ -46,20 +46,20 @@ impl<'a> Case<'a> for Header<'a> {
         Some((Header(header), rest))
     }
 
-    fn print(self, rt: &HostRuntime, number: usize) -> io::Result<()> {
+    fn print(self, rt: &HostRuntime, number: usize) {
         let Header(header) = self;
-        println!(rt; "case {number} length {}", header.len())?;
-        println!(rt; "header {}", header::header_len(header))?;
+        let _ = println!(rt; "case {number} length {}", header.len());
+        let _ = println!(rt; "header {}", header::header_len(header));
         let parsed = header::parse(header);
-        case_file::print_check(rt, parsed.check.err(), "passed")?;
+        case_file::print_check(rt, parsed.check.err(), "passed");
         for (slot, entry) in parsed.index.iter().enumerate() {
-            print_slot(rt, header, slot, *entry)?;
+            print_slot(rt, header, slot, *entry);
         }
-        Ok(())
     }
 }
 
 fn main(rt: HostRuntime) -> io::Result<()> {
     let file = fs::read(&rt, "cases.bin")?;
-    case_file::print_cases::<Header>(&rt, file.as_slice())
+    case_file::print_cases::<Header>(&rt, file.as_slice());
+    Ok(())
 }

@@ -17,6 +17,9 @@ use std::{fs, io};
 // The longest data area of a case.
 const AREA_LIMIT: usize = 65536;
 
+// Each case is lent a part of these: a program needs no heap for its areas, however often it is lent one.
+static ZEROS: [u8; AREA_LIMIT] = [0; AREA_LIMIT];
+
 // The name at the front, which has its length in a byte before it, and what stands after it; none where it is cut
 // short.
 fn split_name(names: &[u8]) -> Option<(&[u8], &[u8])>
@@ -56,33 +59,33 @@ impl<'a> Iterator for Names<'a> {
     }
 }
 
-fn print_sizes(rt: &impl Print, layout: &BinTable) -> io::Result<()> {
-    print!(rt; "table {} columns {} rows", layout.tfields, layout.naxis2)?;
-    println!(rt;
+fn print_sizes(rt: &impl Print, layout: &BinTable) {
+    let _ = print!(rt; "table {} columns {} rows", layout.tfields, layout.naxis2);
+    let _ = println!(rt;
         " {} bytes {} pcount {} theap",
         layout.naxis1, layout.pcount, layout.theap
-    )
+    );
 }
 
-fn print_column(rt: &impl Print, number: usize, column: &Column) -> io::Result<()> {
+fn print_column(rt: &impl Print, number: usize, column: &Column) {
     let form = Form(column.form);
     let bytes = tform::num_bytes_field(column.form, column.count);
-    print!(rt;
+    let _ = print!(rt;
         "column {number} {form} {} at {} bytes {bytes}",
         column.count, column.start
-    )?;
-    print!(rt; " {}", Stretch(column.name))?;
+    );
+    let _ = print!(rt; " {}", Stretch(column.name));
     // The scaling of a column with neither keyword is seen in what it reads.
     if column.scaling_given {
-        print!(rt; "{}", Factors(column.scaling))?;
+        let _ = print!(rt; "{}", Factors(column.scaling));
     }
-    println!(rt; "{}", Missing(column.null))
+    let _ = println!(rt; "{}", Missing(column.null));
 }
 
 #[derive(Clone, Copy)]
 struct Table<'a> {
     header: &'a [u8],
-    area_len: usize,
+    area: &'a [u8],
     // The part of the header that is lent in the second round.
     front: &'a [u8],
     names: &'a [u8],
@@ -91,24 +94,22 @@ struct Table<'a> {
 
 impl Table<'_> {
     // The name of each column and of one more, from the whole header and from its front.
-    fn print_names(&self, rt: &impl Print, layout: BinTable) -> io::Result<()> {
+    fn print_names(&self, rt: &impl Print, layout: BinTable) {
         for i in 0..=layout.tfields.min(TFIELDS_LIMIT) {
             let full = Bytes(layout::column_name(self.header, layout, i));
-            println!(rt; "name {i} full{full}")?;
+            let _ = println!(rt; "name {i} full{full}");
             let cut = Bytes(layout::column_name(self.front, layout, i));
-            println!(rt; "name {i} cut{cut}")?;
+            let _ = println!(rt; "name {i} cut{cut}");
         }
-        Ok(())
     }
 
-    fn print_finds(&self, rt: &impl Print, layout: BinTable) -> io::Result<()> {
+    fn print_finds(&self, rt: &impl Print, layout: BinTable) {
         for (i, name) in Names(self.names).take(usize::from(self.count)).enumerate() {
             let full = Place(layout::find_field_by_ttype(self.header, layout, name));
-            println!(rt; "find {i} full {full}")?;
+            let _ = println!(rt; "find {i} full {full}");
             let cut = Place(layout::find_field_by_ttype(self.front, layout, name));
-            println!(rt; "find {i} cut {cut}")?;
+            let _ = println!(rt; "find {i} cut {cut}");
         }
-        Ok(())
     }
 }
 
@@ -118,13 +119,9 @@ impl<'a> Case<'a> for Table<'a> {
         let (area_len, rest) = case_file::split_number(rest)?;
         let (front_len, rest) = case_file::split_number(rest)?;
         let (count, names) = rest.split_first()?;
-        let area_len = area_len as usize;
-        if AREA_LIMIT < area_len {
-            return None;
-        }
         let table = Table {
             header,
-            area_len,
+            area: ZEROS.get(..area_len as usize)?,
             front: header.get(..front_len as usize).unwrap_or(header),
             names,
             count: *count,
@@ -132,23 +129,23 @@ impl<'a> Case<'a> for Table<'a> {
         Some((table, after_names(names, *count)))
     }
 
-    fn print(self, rt: &HostRuntime, number: usize) -> io::Result<()> {
-        println!(rt; "case {number}")?;
-        let area = vec![in rt.alloc(); 0u8; self.area_len]?;
-        let parsed = bintable::parse(self.header, area.as_slice());
+    fn print(self, rt: &HostRuntime, number: usize) {
+        let _ = println!(rt; "case {number}");
+        let parsed = bintable::parse(self.header, self.area);
         // Of a table that is refused the empty layout is shown.
         let layout = parsed.unwrap_or(EMPTY_LAYOUT);
-        case_file::print_check(rt, parsed.err(), "accepted")?;
-        print_sizes(rt, &layout)?;
+        case_file::print_check(rt, parsed.err(), "accepted");
+        print_sizes(rt, &layout);
         for (i, column) in layout.columns.iter().take(layout.tfields).enumerate() {
-            print_column(rt, i, column)?;
+            print_column(rt, i, column);
         }
-        self.print_names(rt, layout)?;
-        self.print_finds(rt, layout)
+        self.print_names(rt, layout);
+        self.print_finds(rt, layout);
     }
 }
 
 fn main(rt: HostRuntime) -> io::Result<()> {
     let file = fs::read(&rt, "cases.bin")?;
-    case_file::print_cases::<Table>(&rt, file.as_slice())
+    case_file::print_cases::<Table>(&rt, file.as_slice());
+    Ok(())
 }

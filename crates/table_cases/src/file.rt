@@ -1,8 +1,9 @@
 // A case and its steps, made from their bytes in the file.
+ghost use Rattle.std.specs.Prelude.{◌≤◌};
+
 use layout::BinTable;
 use refusal::Refusal;
 use row::owners::LIST_LIMIT;
-use std::alloc::{AllocError, Global};
 use walk::{How, Reading, TableData};
 
 const RECORD_LEN: usize = 80;
@@ -10,6 +11,9 @@ const RECORD_LEN: usize = 80;
 const KEPT_LEN: usize = 32;
 
 const STEP_LEN: usize = 18;
+
+// The length of the longest header.
+pub const HEADER_LIMIT: usize = 8640;
 
 // The most indexes of columns.
 const INDEX_LIMIT: usize = 128;
@@ -42,7 +46,9 @@ fn lent<'a>(areas: &'a [u8], bytes: &[u8]) -> &'a [u8] {
 }
 
 // The length of a header of so many blocks, none where they are more than three.
-fn header_len(blocks: u8) -> usize {
+fn header_len(blocks: u8) -> usize
+    ensures { result ≤ 8640 }
+{
     if blocks <= 3 {
         usize::from(blocks) * 2880
     } else {
@@ -52,7 +58,7 @@ fn header_len(blocks: u8) -> usize {
 
 #[derive(Clone, Copy)]
 pub struct TableCase<'a> {
-    header_len: usize,
+    header_blocks: u8,
     // The front of each record of the header.
     kept: &'a [u8],
     // What the entry is lent, and what the opening is.
@@ -74,7 +80,7 @@ impl<'a> TableCase<'a> {
         let (indexes, rest) = split_block(rest);
         let (steps, _) = split_block(rest);
         TableCase {
-            header_len: header_len(byte_at(settings, 0)),
+            header_blocks: byte_at(settings, 0),
             kept,
             entry: lent(areas, from(settings, 3)),
             opening: lent(areas, from(settings, 11)),
@@ -85,37 +91,32 @@ impl<'a> TableCase<'a> {
         }
     }
 
-    // The header, with spaces for what is not kept.
-    pub fn header(&self, alloc: Global) -> Result<Vec<u8>, AllocError> {
-        let mut header = Vec::new(alloc);
-        for kept in self.kept.chunks(KEPT_LEN) {
-            let mut record = [b' '; RECORD_LEN];
+    // The header, made in a buffer of spaces, which stay for what is not kept. Of the front of each record no more are
+    // looked at than the header has records.
+    pub fn header<'b>(&self, buffer: &'b mut [u8; HEADER_LIMIT]) -> &'b [u8] {
+        let header = &mut buffer[..header_len(self.header_blocks)];
+        let (records, _) = header.as_chunks_mut::<RECORD_LEN>();
+        for (record, kept) in records.iter_mut().zip(self.kept.chunks(KEPT_LEN)) {
             // Byte by byte, since `copy_from_slice` asks for a proof that no chunk is longer than a record.
             for (place, byte) in record.iter_mut().zip(kept) {
                 *place = *byte;
             }
-            header.extend_from_slice(&record)?;
         }
-        header.resize(self.header_len, b' ')?;
-        Ok(header)
+        header
     }
 
     // The cursor on the chosen columns, or what refuses the opening.
-    pub fn open(
-        &self,
-        alloc: Global,
-        layout: BinTable,
-    ) -> Result<Result<TableData, Refusal>, AllocError> {
+    pub fn open(&self, layout: BinTable) -> Result<TableData, Refusal> {
         let Some(indexes) = self.indexes else {
-            return Ok(table::open(layout, self.opening, self.heap));
+            return table::open(layout, self.opening, self.heap);
         };
         let (indexes, _) = indexes.as_chunks::<8>();
-        let columns: Vec<usize> = indexes
-            .iter()
-            .take(INDEX_LIMIT)
-            .map(|index| usize::from_be_bytes(*index))
-            .collect(alloc)?;
-        Ok(table::select_fields(layout, self.opening, columns.as_slice(), self.heap))
+        let mut columns = [0; INDEX_LIMIT];
+        for (column, index) in columns.iter_mut().zip(indexes) {
+            *column = usize::from_be_bytes(*index);
+        }
+        let chosen = &columns[..indexes.len().min(INDEX_LIMIT)];
+        table::select_fields(layout, self.opening, chosen, self.heap)
     }
 
     pub fn steps(&self) -> &'a [[u8; STEP_LEN]] {

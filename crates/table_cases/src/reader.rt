@@ -4,8 +4,7 @@ use crate::shown::Shown;
 use cell::{Cell, DataValue};
 use layout::BinTable;
 use refusal::Refusal;
-use std::alloc::{AllocError, Global};
-use std::io;
+use row::owners::LIST_LIMIT;
 use walk::{How, Stepped, TableData};
 
 // What a list is filled with before it is lent: a cell that no table gives.
@@ -27,6 +26,17 @@ fn cells_read(answer: Result<Option<u64>, Refusal>) -> usize {
 // two away from where the row read ended, and the last two.
 fn is_shown(k: usize, n: usize, cells: usize) -> bool {
     n <= 24 || k < 8 || k.abs_diff(cells) <= 2 || k.abs_diff(n) <= 2
+}
+
+// How many cells a row read stored; what it returned is printed.
+fn print_read(rt: &impl Print, stepped: Stepped<Option<u64>>) -> usize {
+    let _ = println!(rt; "{}", Shown(stepped.answer));
+    let _ = println!(rt; "{}", Shown(stepped.cursor));
+    cells_read(stepped.answer)
+}
+
+fn print_listed(rt: &impl Print, k: usize, cell: Cell) {
+    let _ = println!(rt; "list {k} {}", Shown(cell));
 }
 
 // What a step over a lent cursor answers, beside the cursor after it.
@@ -76,72 +86,69 @@ impl Reader<'_> {
         }
     }
 
-    // The row read into a list of n cells, with what it returned and the list after it.
-    fn next_row(
-        &self,
-        alloc: Global,
-        cursor: TableData,
-        n: usize,
-    ) -> Result<(Stepped<Option<u64>>, Vec<Cell>), AllocError> {
-        let mut list = vec![in alloc; other(); n]?;
-        if self.over_lent {
-            let stepped = by_lent(cursor, |own| {
-                row::next_row(own, self.layout, self.area, self.how, list.as_mut_slice())
-            });
-            return Ok((stepped, list));
-        }
-        // By value the list is that of `row_cell`, which gives one cell of it: the read is done anew for each that
-        // is shown.
-        let read = |k: usize| {
-            row::owners::row_cell(self.layout, self.area, cursor, self.how, other(), n, k)
-        };
-        let stepped = read(0).stepped;
-        let cells = cells_read(stepped.answer);
-        for (k, cell) in list.iter_mut().enumerate() {
-            if is_shown(k, n, cells) {
-                *cell = read(k).cell;
-            }
-        }
-        Ok((stepped, list))
-    }
-
-    // A row read. Cells of the list past those that it stored must be as they were, so they are printed too.
-    fn print_row(&self, rt: &HostRuntime, cursor: TableData, n: usize) -> io::Result<TableData> {
-        let (stepped, list) = self.next_row(rt.alloc(), cursor, n)?;
-        println!(rt; "{}", Shown(stepped.answer))?;
-        println!(rt; "{}", Shown(stepped.cursor))?;
-        let cells = cells_read(stepped.answer);
+    // A row read into a list that is lent for it. It and the next are not inlined, so that the stack never holds their
+    // two lists at once.
+    #[inline(never)]
+    fn print_lent_row(&self, rt: &impl Print, cursor: TableData, n: usize) -> TableData {
+        let mut list = [other(); LIST_LIMIT];
+        let lent = &mut list[..n.min(LIST_LIMIT)];
+        let stepped = by_lent(
+            cursor,
+            |own| row::next_row(own, self.layout, self.area, self.how, lent),
+        );
+        let cells = print_read(rt, stepped);
         for (k, cell) in list
             .iter()
+            .take(n)
             .enumerate()
             .filter(|(k, _)| is_shown(*k, n, cells))
         {
-            println!(rt; "list {k} {}", Shown(*cell))?;
+            print_listed(rt, k, *cell);
         }
-        Ok(stepped.cursor)
+        stepped.cursor
+    }
+
+    // By value the list is that of `row_cell`, which gives one cell of it: the read is done anew for each other that is
+    // shown.
+    #[inline(never)]
+    fn print_own_row(&self, rt: &impl Print, cursor: TableData, n: usize) -> TableData {
+        let read = |k: usize| {
+            row::owners::row_cell(self.layout, self.area, cursor, self.how, other(), n, k)
+        };
+        let first = read(0);
+        let cells = print_read(rt, first.stepped);
+        for k in (0..n).filter(|k| is_shown(*k, n, cells)) {
+            let listed = if k == 0 { first } else { read(k) };
+            print_listed(rt, k, listed.cell);
+        }
+        first.stepped.cursor
+    }
+
+    // A row read. Cells of the list past those that it stored must be as they were, so they are printed too.
+    fn print_row(&self, rt: &impl Print, cursor: TableData, n: usize) -> TableData {
+        if self.over_lent {
+            self.print_lent_row(rt, cursor, n)
+        } else {
+            self.print_own_row(rt, cursor, n)
+        }
     }
 
     // The cursor after a call, whose answer is printed.
-    pub fn print_call(
-        &self,
-        rt: &HostRuntime,
-        cursor: TableData,
-        call: Call,
-    ) -> io::Result<TableData> {
+    pub fn print_call(&self, rt: &impl Print, cursor: TableData, call: Call) -> TableData {
         let after = match call {
             Call::Cell => {
                 let stepped = self.next(cursor);
-                println!(rt; "{}", Shown(stepped.answer))?;
+                let _ = println!(rt; "{}", Shown(stepped.answer));
                 stepped.cursor
             }
             Call::Seek { row } => {
                 let stepped = self.seek_to_row(cursor, row);
-                println!(rt; "{}", Shown(stepped.answer))?;
+                let _ = println!(rt; "{}", Shown(stepped.answer));
                 stepped.cursor
             }
             Call::Row { len } => return self.print_row(rt, cursor, len),
         };
-        println!(rt; "{}", Shown(after))?;
-        Ok(after)
+        let _ = println!(rt; "{}", Shown(after));
+        after
     }
 }
