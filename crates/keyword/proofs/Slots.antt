@@ -16,8 +16,8 @@ use Rattle.ascii.specs.Text.{bytes, same}
 use Rattle.ascii.proofs.Cases.{either}
 use Rattle.keyword.specs.Names.{range, numeral, index_limit, column_slots, indexed, single, once_roots, other_roots, roots, names_up_to, used_names, slot_names, once_names, position}
 use Rattle.keyword.proofs.Position.{below, position_append, position_front, range_at, map_at}
-use Rattle.keyword.proofs.Numerals.{index_at}
-use Rattle.keyword.proofs.Parts.{Rooted, all_rooted, once_rooted, length_indexed, root_length, names_root}
+use Rattle.keyword.proofs.Numerals.{index_at, index_below}
+use Rattle.keyword.proofs.Parts.{Rooted, all_rooted, once_rooted, length_indexed, root_length, names_root, names_single, single_slot, rooted_slot}
 
 -- each single name is found at its own place
 places : map (λ (x : List ℕ). position x single) single ≡ map Some (range 0 (length single))
@@ -166,3 +166,26 @@ unused_once n e =
     parted =
         ap (λ (l : List (List ℕ)). single ++ l) (flat_map-append (indexed index_limit) once_roots other_roots)
         ∙ sym (append_assoc single (flat_map (indexed index_limit) once_roots) (flat_map (indexed index_limit) other_roots))
+
+-- nor has it a slot
+module _ (n : List ℕ) (e : position n used_names ≡ None) where
+  no_slot : position n slot_names ≡ None
+  unfolding used_names
+  no_slot = by (position (take 5 n) roots) refl
+    where
+      index : Option ℕ
+      index = position (drop 5 n) (map numeral (range 1 index_limit))
+
+      none : (r : ℕ) → position (take 5 n) roots ≡ Some r → (f : Option ℕ) → index ≡ f → position n slot_names ≡ None
+      none r q None d = rooted_slot n r q ∙ rw d
+      none r q (Some k) d =
+          let u = sym (names_root n index_limit (omega arith) roots all_rooted r q) ∙ e in
+          let w = rw (d, lt-ltb k index_limit (index_below (drop 5 n) k d)) at u in
+          cc
+
+      by : (f : Option ℕ) → position (take 5 n) roots ≡ f → position n slot_names ≡ None
+      by None q = single_slot n q ∙ sym (names_single n index_limit (omega arith) roots all_rooted q) ∙ e
+      by (Some r) q = none r q index refl
+
+  pub unused : (position n slot_names ≡ None) × (position n once_names ≡ None)
+  unused = (no_slot, unused_once n e)
