@@ -143,6 +143,13 @@ pub fn num_bytes_field(form: TFormType, count: u32) -> u64
     field_items(form, count) * width
 }
 
+// The same, under the name that a caller of landings 6 to 8 has it by.
+pub fn field_bytes(form: TFormType, count: u32) -> u64
+    ensures { result ≡ field_bytes form count }
+{
+    num_bytes_field(form, count)
+}
+
 // Whether a count is within its limit: a field of P or Q is one descriptor or none. A count that every form may have
 // is seen first, so that most columns need no look at the form (docs/SPEED.md).
 pub fn count_ok(form: TFormType, count: u32) -> bool
