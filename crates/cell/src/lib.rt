@@ -1,6 +1,7 @@
 // One item of a field or of a heap array and its value, and the array that a descriptor names.
 #![tactic(auto)]
 
+pub mod floats;
 mod scaled;
 pub mod words;
 
@@ -123,6 +124,13 @@ impl From<u8> for Logical {
             _ => Logical::Odd(byte),
         }
     }
+}
+
+// The same, under the name that callers have it by.
+pub fn read_logical(byte: u8) -> Logical
+    ensures { result ≡ logical byte }
+{
+    Logical::from(byte)
 }
 
 // The item at a place, as its bytes say it. All types take theirs of one read of eight bytes, which leaves the

@@ -1,6 +1,8 @@
 // Big-endian numbers of the data area. A byte past the area counts as 0. Area and place are no struct: each call has
 // another place, and the area goes through as it came.
 ghost use Rattle.std.specs.Prelude.{◌≡◌, ◌+◌, ◌/◌, ◌^◌, bit_and, get_or};
+ghost use Rattle.std.specs.Int.{w16, w32, w64};
+ghost use Rattle.std.proofs.Common.{to_z};
 ghost use Rattle.cell.specs.Item.{word};
 
 // The byte at place at + i, a sum that could wrap.
@@ -64,4 +66,23 @@ pub fn u16_at(area: &[u8], at: u64, from: u8) -> u16
     ensures { result ≡ word area.now (at + from) 2 }
 {
     (eight_at(area, at, from) >> 48) as u16
+}
+
+// Two's complement: the library's `cast_signed`, under the names that callers have it by.
+pub fn signed16(n: u16) -> i16
+    ensures { result ≡ to_z w16 n }
+{
+    u16::cast_signed(n)
+}
+
+pub fn signed32(n: u32) -> i32
+    ensures { result ≡ to_z w32 n }
+{
+    u32::cast_signed(n)
+}
+
+pub fn signed64(n: u64) -> i64
+    ensures { result ≡ to_z w64 n }
+{
+    u64::cast_signed(n)
 }
