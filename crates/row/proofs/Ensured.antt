@@ -1,5 +1,5 @@
 -- The premises of row/specs/Ran are the contracts of the calls: for each call, what its `ensures` says, as the check has it, is that premise, by computation. So a
--- run of the code is a `Ran`. The row read into a list of its own has the contract of the row read by value.
+-- run of the code is a `Ran`. The owners have the contracts of the calls by value.
 -- Assumes nothing.
 use Rattle.std.specs.Prelude.{Option, Result}
 use Prim.Native.Nat.{ℕ}
@@ -35,7 +35,10 @@ use Rattle.row.specs.contracts.read_row as read_row_by_value
 use Rattle.row.specs.contracts.next as lent_next
 use Rattle.row.specs.contracts.next_row as lent_next_row
 use Rattle.row.specs.contracts.seek_to_row as lent_seek_to_row
+use Rattle.row.specs.contracts.owners.next as own_next
+use Rattle.row.specs.contracts.owners.seek_to_row as own_seek_to_row
 use Rattle.row.specs.contracts.owners.row_cell as own_row_cell
+use Rattle.row.specs.contracts.owners.next_row_cell as own_next_row_cell
 
 module _ {M : Type 1} {𝓤 : Ura M} (𝓛 : Logic 𝓤) (mem : Memory → SProp 𝓤) (run : Routine → Fun 𝓤) (κ κ' κ'' : Lft) (l : BinTable) (area : Bor (List ℕ)) where
   -- ---- the entry and opening
@@ -75,6 +78,16 @@ module _ {M : Type 1} {𝓤 : Ura M} (𝓛 : Logic 𝓤) (mem : Memory → SProp
 
     -- ---- the owners
 
+    pub own_next_ensures : (how : How) (r : Stepped (Option Cell))
+        → (own_next.clauses 𝓛 mem run (κ, tt) (l, (area, (cursor, (how, tt))))).ensures tt r (l, (area, (cursor, (how, tt))))
+        ≡ fact 𝓤 (NextEnsures l area.now cursor how r)
+    own_next_ensures how r = refl
+
+    pub own_seek_ensures : (row : ℕ) (r : Stepped Unit)
+        → (own_seek_to_row.clauses 𝓛 mem run (κ, tt) (l, (area, (cursor, (row, tt))))).ensures tt r (l, (area, (cursor, (row, tt))))
+        ≡ fact 𝓤 (SeekEnsures l area.now cursor row r)
+    own_seek_ensures row r = refl
+
     -- a row read into a list of the owner's, and a cell of what it holds afterwards
     module _ (how : How) (filler : Cell) (n k : ℕ) where
       abbrev lists : List Cell
@@ -84,6 +97,11 @@ module _ {M : Type 1} {𝓤 : Ura M} (𝓛 : Logic 𝓤) (mem : Memory → SProp
           → (own_row_cell.clauses 𝓛 mem run (κ, tt) (l, (area, (cursor, (how, (filler, (n, (k, tt)))))))).ensures tt r (l, (area, (cursor, (how, (filler, (n, (k, tt)))))))
           ≡ sep 𝓤 (fact 𝓤 (RowEnsures l area.now cursor how (own_list filler n) lists r.stepped)) (fact 𝓤 (r.cell ≡ get_or lists k filler))
       own_row_ensures r = refl
+
+      pub own_lent_row_ensures : (r : RowCell)
+          → (own_next_row_cell.clauses 𝓛 mem run (κ, tt) (l, (area, (cursor, (how, (filler, (n, (k, tt)))))))).ensures tt r (l, (area, (cursor, (how, (filler, (n, (k, tt)))))))
+          ≡ sep 𝓤 (fact 𝓤 (RowEnsures l area.now cursor how (own_list filler n) lists r.stepped)) (fact 𝓤 (r.cell ≡ get_or lists k filler))
+      own_lent_row_ensures r = refl
 
   -- ---- the steps over a lent cursor
 
