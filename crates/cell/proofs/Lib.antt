@@ -3,6 +3,7 @@ pub mod Same
 pub mod Kept
 pub mod Numbers
 pub mod Swapped
+pub mod Nan
 pub mod Arrays
 pub mod Inside
 pub mod Empty
