@@ -156,6 +156,24 @@ impl Source<'_> {
     }
 }
 
+// The same, of a file, its layout and the steps one by one.
+pub fn next_page(file: &[u8], layout: BinTable, steps: &[u8], state: State, out: &mut [u8]) -> Page
+    ensures len { result.len ≡ length (page_text (length out.old) (file_left file.now layout steps.now state)) }
+    ensures buffer { out.new ≡ put_in out.old 0
+        (page_text (length out.old) (file_left file.now layout steps.now state)) }
+    ensures state { file_left file.now layout steps.now result.state
+        ≡ page_rest (length out.old) (file_left file.now layout steps.now state) }
+    ensures whole { Whole (length file.now + 128) (length out.old) result.len
+        (file_left file.now layout steps.now state) }
+{
+    let source = Source {
+        file,
+        layout,
+        steps,
+    };
+    source.next_page(state, out)
+}
+
 // The bytes of a file that are looked at.
 #[tactic(auto, using(crate::proofs::Parted::first_part))]
 pub fn first_bytes(file: &[u8]) -> &[u8]
