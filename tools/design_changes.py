@@ -52,6 +52,8 @@ RULES = [
 LISTS = {"docs/DESIGN-PASS.md", "docs/PORT.md"}
 PROGRAMS = ("header_cases", "layout_cases", "table_cases")
 WIDTH = 100
+# In design_went.txt, beside a name that went by the pass and stands again.
+BACK = "came back after the look"
 
 # Something that a crate declares: its file, the name by which it is found again, its lines, whether it is public.
 Item = collections.namedtuple("Item", "crate file name lines public")
@@ -575,7 +577,8 @@ class Report:
         self.theorems()
         self.private()
         if check:
-            self.look += ["needed by no name: " + key for key in sorted(set(self.went.lines) - self.went.seen)]
+            rest = sorted(set(self.went.lines) - self.went.seen)
+            self.look += ["needed by no name: " + key for key in rest if BACK not in self.went.lines[key]]
             print("\n".join(self.look) or "nothing to look at")
         else:
             print("\n".join(self.out).strip())
