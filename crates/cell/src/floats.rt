@@ -1,4 +1,4 @@
-// The float of a bit pattern, a NaN for a NaN's pattern: the library's calls, under the names that callers have them by.
+// The float of a bit pattern, of a NaN's pattern a NaN: the library's calls, by the names that callers have.
 ghost use Rattle.std.specs.Prelude.{◌≡◌};
 ghost use Rattle.std.specs.Float.{binary32, binary64};
 ghost use Rattle.std.specs.Float.Ieee.{of_bits};
