@@ -18,14 +18,3 @@ pub hex_length : (k n : ℕ) → length (hex_text k n) ≡ k
 unfolding hex_text
 hex_length zero n = refl
 hex_length (suc k) n = simp length-append (omega (arith, hex_length k (n / 16)))
-
--- a digit more, and none
-pub hex_more : (k n : ℕ) → 0 < k → hex_text (k - 1) (n / 16) ++ (hex_digit (n % 16) ∷ []) ≡ hex_text k n
-unfolding hex_text
-hex_more zero n h = absurd (omega arith)
-hex_more (suc k) n h = let e : suc k - 1 ≡ k = omega arith in ap (λ (j : ℕ). hex_text j (n / 16) ++ (hex_digit (n % 16) ∷ [])) e
-
-pub hex_none : (w : List ℕ) (k n : ℕ) → k ≤ 0 → w ≡ w ++ hex_text k n
-unfolding hex_text
-hex_none w zero n h = sym (append-nil w)
-hex_none w (suc k) n h = absurd (omega arith)
