@@ -4,9 +4,9 @@
 
 mod pages;
 
-ghost use Rattle.std.specs.Prelude.{◌≡◌, ◌≤◌, [], length, take, IfOk, IfSome};
+ghost use Rattle.std.specs.Prelude.{ℕ, ◌≡◌, ◌≤◌, List, [], length, take, IfOk, IfSome};
 ghost use Rattle.output.specs.Cells.{file_limit};
-ghost use Rattle.output.specs.State.{file_left};
+ghost use Rattle.output.specs.State.{file_left, all_printed};
 
 use output::{FILE_LIMIT, Source, Start, State};
 use std::fs::File;
@@ -77,8 +77,10 @@ pub fn print_pages(rt: &HostRuntime, source: &Source, state: State) -> State
 }
 
 // What the program `cells` does: prints the table of the file table.fits, its columns and every cell (docs/FORMAT.md,
-// section 16).
-pub fn print_cells(rt: &HostRuntime) {
+// section 16). In the state that it returns nothing is left of what is printed of the bytes that were read.
+pub fn print_cells(rt: &HostRuntime) -> State
+    ensures { (file : List ℕ) × (length file ≤ file_limit) × all_printed file result }
+{
     let mut buffer = file_buffer();
     let file = read_file(rt, b"table.fits", &mut buffer);
     let Start { layout, state } = output::cells_start(file);
@@ -87,5 +89,5 @@ pub fn print_cells(rt: &HostRuntime) {
         layout,
         steps: b"",
     };
-    print_pages(rt, &source, state);
+    print_pages(rt, &source, state)
 }

@@ -1,6 +1,6 @@
 -- What is left to print in each state of the two programs.
 -- Assumes nothing.
-use Rattle.std.specs.Prelude.{ℕ, ◌+◌, ◌-◌, cond, List, [], ◌∷◌, ◌++◌, map, take, drop, Option, Some, None}
+use Rattle.std.specs.Prelude.{ℕ, ◌≡◌, ◌+◌, ◌-◌, cond, List, [], ◌∷◌, ◌++◌, map, take, drop, Option, Some, None}
 use Rattle.layout.specs.declared.BinTable.{BinTable}
 use Rattle.refusal.specs.Refusal.{number_of, place_of}
 use Rattle.bintable.specs.Entry as B
@@ -52,3 +52,7 @@ file_left f l s t = left (header_of f) l (data_of f) s t
 -- the same, of a source
 abbrev pub left_of : Source → State → List (List ℕ)
 left_of x t = file_left x.file.now x.layout x.steps.now t
+
+-- nothing is left of what `cells` prints of a file
+abbrev pub all_printed : List ℕ → State → Type 0
+all_printed f t = file_left f (B.layout_in (B.entry (header_of f) (data_of f))) [] t ≡ []

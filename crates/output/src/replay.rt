@@ -109,15 +109,7 @@ impl Parts<'_> {
             }
             Command::Row { how, cells } => {
                 let blank = cell::blank_cell();
-                let read = row::owners::row_cell(
-                    layout,
-                    self.area,
-                    cursor,
-                    how,
-                    blank,
-                    cells,
-                    0,
-                );
+                let read = row::owners::row_cell(layout, self.area, cursor, how, blank, cells, 0);
                 row_answered(read.stepped, after, cursor, how, cells)
             }
             Command::Seek(row) => {
