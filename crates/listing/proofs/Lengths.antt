@@ -1,14 +1,12 @@
 -- The lengths of signed numbers and of bits as text.
 -- Assumes nothing.
-use Prim.Native.Nat.{ℕ, zero, suc, ◌-◌, ◌/◌, ◌%◌, ◌≤◌, ◌<◌}
-use mathlib.Core.Path.{◌≡◌, refl, sym, ap}
-use mathlib.Core.List.{List, [], ◌∷◌, ◌++◌}
-use Rattle.std.proofs.Common.{append-nil}
+use Prim.Native.Nat.{ℕ, zero, suc, ◌/◌, ◌≤◌}
+use mathlib.Core.Path.{◌≡◌, refl}
 use native.Mathlib.Omega.{arith}
 use lib.ListN.{length, length-append}
 use lib.IntN.{ℤ, pos, negsuc}
 use Rattle.ascii.proofs.Lengths.{decimal_length}
-use Rattle.listing.specs.Text.{signed_text, hex_text, hex_digit}
+use Rattle.listing.specs.Text.{signed_text, hex_text}
 
 pub signed_length : (z : ℤ) → length (signed_text z) ≤ 21
 signed_length (pos n) = omega (arith, decimal_length n)

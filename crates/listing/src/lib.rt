@@ -36,7 +36,6 @@ pub enum Line {
 
 // Writes a line and its line feed from a place of the buffer on. The rest of the buffer stays as it was, and where
 // there is no room for all of it, all of the buffer does.
-#[tactic(auto, unfolding(ascii::specs::Text::bytes, crate::specs::Lines::line, crate::specs::Lines::end_line, crate::specs::Lines::row_line, crate::specs::Lines::seek_line, crate::specs::Lines::at_end_line, crate::specs::Lines::bad_line))]
 pub fn put_line(
     out: &mut [u8],
     at: usize,
@@ -47,9 +46,24 @@ pub fn put_line(
     ensures to { result ≡ written_to out.old at (line_text header.now layout line) }
     ensures buffer { out.new ≡ written out.old at (line_text header.now layout line) }
 {
+    put_line_of(out, at, header, &layout, line)
+}
+
+// The same with a layout that is lent: only the lines of a table and of a column copy it.
+#[tactic(auto, unfolding(ascii::specs::Text::bytes, crate::specs::Lines::line, crate::specs::Lines::end_line, crate::specs::Lines::row_line, crate::specs::Lines::seek_line, crate::specs::Lines::at_end_line, crate::specs::Lines::bad_line))]
+pub fn put_line_of(
+    out: &mut [u8],
+    at: usize,
+    header: &[u8],
+    layout: &BinTable,
+    line: Line,
+) -> Option<usize>
+    ensures to { result ≡ written_to out.old at (line_text header.now layout.now line) }
+    ensures buffer { out.new ≡ written out.old at (line_text header.now layout.now line) }
+{
     match line {
-        Line::Table => lines::table_line(layout).put_to(out, at),
-        Line::Column(c) => lines::column_line(out, at, header, layout, c),
+        Line::Table => lines::table_line(*layout).put_to(out, at),
+        Line::Column(c) => lines::column_line(out, at, header, *layout, c),
         Line::Cell(cell) => lines::cell_line(cell).put_to(out, at),
         Line::End(cells) => lines::number_line(b"end", cells).put_to(out, at),
         Line::Refused(refusal) => lines::refused_line(refusal).put_to(out, at),

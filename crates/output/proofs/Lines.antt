@@ -6,8 +6,8 @@ use mathlib.Core.Path.{◌≡◌, refl, ap, ◌∙◌}
 use mathlib.Core.List.{List, [], ◌∷◌, ◌++◌}
 use native.Mathlib.Numerals.{add-one}
 use native.Mathlib.Omega.{arith}
-use lib.Dec.{eqb, leb, ltb}
-use lib.ListN.{length, take, drop, replicate, get_or, length-append, length-take, drop_of_length-le}
+use lib.Dec.{eqb, ltb}
+use lib.ListN.{length, take, drop, replicate, get_or, length-take, drop_of_length-le}
 use lib.Seq.{get_or-take, drop-cons}
 use borrow.Author.Tests.{ltb-true, ltb-false}
 use Rattle.ascii.proofs.Cases.{either, by_test}
@@ -16,14 +16,12 @@ use Rattle.layout.specs.declared.BinTable.{BinTable}
 use Rattle.cell.specs.declared.Cell.{Cell}
 use Rattle.cell.specs.Item.{blank_cell}
 use Rattle.walk.specs.declared.TableData.{TableData}
-use Rattle.walk.specs.declared.Entry.{Entry}
 use Rattle.walk.specs.declared.Stepped.{Stepped}
 use Rattle.walk.specs.declared.How.{How}
 use Rattle.walk.specs.Readings.{stored_by}
 use Rattle.walk.proofs.Answers.{stored_inside}
-use Rattle.walk.specs.Walk.{read_cell, read_row, seek, Gathered, all_cells, outside, rest, row_outcome, walk_step}
-use Rattle.walk.specs.Plain.{row_entries}
-use Rattle.walk.specs.Step.{belongs, state_of, StepResult, cursor_step, cell_reply, row_reply, seek_reply, cell_result, row_result, seek_result}
+use Rattle.walk.specs.Walk.{read_cell, read_row, seek}
+use Rattle.walk.specs.Step.{StepResult, cursor_step, cell_reply, row_reply, seek_reply, cell_result, row_result, seek_result}
 use Rattle.row.specs.declared.owners.RowCell.{RowCell}
 use Rattle.row.specs.Owned.{own_list, own_read}
 use Rattle.listing.specs.declared.Line.TheVariants as L

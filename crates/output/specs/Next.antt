@@ -2,7 +2,6 @@
 -- Assumes nothing.
 use Rattle.std.specs.Prelude.{ℕ, List, Option, Some, None, Result, Ok, Err}
 use Rattle.refusal.specs.declared.Refusal.{Refusal}
-use Rattle.layout.specs.declared.BinTable.{BinTable}
 use Rattle.cell.specs.declared.Cell.{Cell}
 use Rattle.walk.specs.declared.TableData.{TableData}
 use Rattle.walk.specs.declared.How.{How}
@@ -14,12 +13,12 @@ use Rattle.output.specs.declared.State.TheVariants as S
 use Rattle.output.specs.declared.Next.{Next}
 use Rattle.output.specs.State.{left, next_lines}
 
--- what is left to print of a source in parts, with the layout of its table, and the lines of a next one
-abbrev pub left_in : Parts → BinTable → State → List (List ℕ)
-left_in s l t = left s.header.now l s.area.now s.steps.now t
+-- what is left to print of a source in parts, and the lines of a next one
+abbrev pub left_in : Parts → State → List (List ℕ)
+left_in s t = left s.header.now s.layout.now s.area.now s.steps.now t
 
-abbrev pub lines_by : Parts → BinTable → Option Next → List (List ℕ)
-lines_by s l n = next_lines s.header.now l s.area.now s.steps.now n
+abbrev pub lines_by : Parts → Option Next → List (List ℕ)
+lines_by s n = next_lines s.header.now s.layout.now s.area.now s.steps.now n
 
 -- the line of a cell read of `cells`, with the cursor d after it
 abbrev pub cells_next : Result (Option Cell) Refusal → TableData → Next

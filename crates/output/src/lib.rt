@@ -86,11 +86,12 @@ pub struct Source<'a> {
     pub steps: &'a [u8],
 }
 
-// The file parted, and the steps. It is made once a page, so that the header is not looked through for its end at each
-// line. The layout goes beside it by value: in a struct that is borrowed, each line copies it once more.
+// The same with the file parted. It is made once a page, so that the header is not looked through for its end at each
+// line. The layout is lent, so that no line copies it.
 #[derive(Clone, Copy)]
 struct Parts<'a> {
     header: &'a [u8],
+    layout: &'a BinTable,
     area: &'a [u8],
     steps: &'a [u8],
 }
@@ -107,17 +108,17 @@ fn refused_next(refusal: Refusal) -> Next
 
 impl Parts<'_> {
     // The next line, none where nothing is left.
-    fn next_line(&self, layout: BinTable, state: State) -> Option<Next>
-        ensures { lines_by self.now layout result ≡ left_in self.now layout state }
+    fn next_line(&self, state: State) -> Option<Next>
+        ensures { lines_by self.now result ≡ left_in self.now state }
     {
         match state {
             State::Table => Some(Next {
                 line: Line::Table,
                 state: State::Column(0),
             }),
-            State::Column(c) => Some(self.next_column(layout, c)),
-            State::Cells(cursor) => Some(self.next_cell(layout, cursor)),
-            State::Step { at, cursor } => self.next_step(layout, at, cursor),
+            State::Column(c) => Some(self.next_column(c)),
+            State::Cells(cursor) => Some(self.next_cell(cursor)),
+            State::Step { at, cursor } => self.next_step(at, cursor),
             State::At { at, cursor } => Some(Next {
                 line: Line::At(cursor),
                 state: State::Step { at, cursor },
@@ -128,7 +129,7 @@ impl Parts<'_> {
                 how,
                 len,
                 k,
-            } => Some(self.next_listed(layout, at, reader, how, len, k)),
+            } => Some(self.next_listed(at, reader, how, len, k)),
             State::Refused(refusal) => Some(refused_next(refusal)),
             State::Done => None,
         }
@@ -147,10 +148,11 @@ impl Source<'_> {
         let (header, area) = header::split_file(self.file);
         let parts = Parts {
             header,
+            layout: &self.layout,
             area,
             steps: self.steps,
         };
-        parts.fill_page(self.layout, state, out)
+        parts.fill_page(state, out)
     }
 }
 

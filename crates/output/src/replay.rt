@@ -7,7 +7,6 @@ ghost use Rattle.output.specs.Next.{left_in, lines_by, answered, cell_next, seek
 
 use crate::{Next, Parts, State};
 use cell::Cell;
-use layout::BinTable;
 use listing::Line;
 use refusal::Refusal;
 use steps::Command;
@@ -92,8 +91,8 @@ fn stored(answer: Result<Option<u64>, Refusal>) -> u64
 
 impl Parts<'_> {
     // The line at a place of the steps, and the step that it says; none at the end of the steps.
-    pub fn next_step(&self, layout: BinTable, at: usize, cursor: TableData) -> Option<Next>
-        ensures { lines_by self.now layout result ≡ left_in self.now layout (State.Step at cursor) }
+    pub fn next_step(&self, at: usize, cursor: TableData) -> Option<Next>
+        ensures { lines_by self.now result ≡ left_in self.now (State.Step at cursor) }
     {
         if self.steps.len() <= at {
             return None;
@@ -105,15 +104,23 @@ impl Parts<'_> {
         };
         let next = match command {
             Command::Cell(how) => {
-                cell_answered(table::next(layout, self.area, cursor, how), after)
+                cell_answered(table::next_of(self.layout, self.area, cursor, how), after)
             }
             Command::Row { how, cells } => {
                 let blank = cell::blank_cell();
-                let read = row::owners::row_cell(layout, self.area, cursor, how, blank, cells, 0);
+                let read = row::owners::row_cell(
+                    *self.layout,
+                    self.area,
+                    cursor,
+                    how,
+                    blank,
+                    cells,
+                    0,
+                );
                 row_answered(read.stepped, after, cursor, how, cells)
             }
             Command::Seek(row) => {
-                let stepped = table::seek_to_row(layout, self.area, cursor, row);
+                let stepped = table::seek_to_row(*self.layout, self.area, cursor, row);
                 seek_answered(stepped, row, after)
             }
             Command::ChooseAll | Command::Choose | Command::Heap(_) => bad_line(self.steps, at),
@@ -124,19 +131,11 @@ impl Parts<'_> {
     // The next cell of the list that a row read stored to; after the last one the cursor's place and count. The row is
     // read anew for each cell, since no state can hold the list.
     #[tactic(auto, using(crate::proofs::Lines::listed_next, crate::proofs::Lines::listed_over))]
-    pub fn next_listed(
-        &self,
-        layout: BinTable,
-        at: usize,
-        reader: TableData,
-        how: How,
-        len: usize,
-        k: usize,
-    ) -> Next
-        ensures { lines_by self.now layout (Some result) ≡ left_in self.now layout (State.Listed at reader how len k) }
+    pub fn next_listed(&self, at: usize, reader: TableData, how: How, len: usize, k: usize) -> Next
+        ensures { lines_by self.now (Some result) ≡ left_in self.now (State.Listed at reader how len k) }
     {
         let blank = cell::blank_cell();
-        let read = row::owners::row_cell(layout, self.area, reader, how, blank, len, k);
+        let read = row::owners::row_cell(*self.layout, self.area, reader, how, blank, len, k);
         let Stepped { cursor, answer } = read.stepped;
         if (k as u64) < stored(answer) {
             return Next {

@@ -80,9 +80,16 @@ pub fn select_fields(
 pub fn next(layout: BinTable, area: &[u8], cursor: TableData, how: How) -> Stepped<Option<Cell>>
     ensures { cell_result result.cursor result.answer ≡ cursor_step layout area.now cursor (read_cell how) }
 {
+    next_of(&layout, area, cursor, how)
+}
+
+// The same over a layout that is lent: a caller that reads cell after cell does not copy it for each.
+pub fn next_of(layout: &BinTable, area: &[u8], cursor: TableData, how: How) -> Stepped<Option<Cell>>
+    ensures { cell_result result.cursor result.answer ≡ cursor_step layout.now area.now cursor (read_cell how) }
+{
     // One pass over the columns gives the entry of the cursor's row. Where it gives none, the calls of `step` tell
     // why; by these alone a cell read of 41 columns takes 4.9 times the instructions.
-    if pass::ready(Sizes::from(&layout), area.len() as u64, cursor) {
+    if pass::ready(Sizes::from(layout), area.len() as u64, cursor) {
         let start = cursor.row * layout.naxis1;
         // Not by TableRow, which asks for what the pass has yet to find.
         let heap = Heap {
@@ -98,7 +105,7 @@ pub fn next(layout: BinTable, area: &[u8], cursor: TableData, how: How) -> Stepp
         for c in 0..layout.tfields {
             let column = layout.columns[c];
             if !pass::in_order(column, scan.at) {
-                return step::next(&layout, area, cursor, how);
+                return step::next(layout, area, cursor, how);
             }
             let is_chosen = chosen(cursor.choice, c);
             let size = rows::column_size(area, start + scan.at, column, is_chosen, &heap);
@@ -119,7 +126,7 @@ pub fn next(layout: BinTable, area: &[u8], cursor: TableData, how: How) -> Stepp
             }
         }
     }
-    step::next(&layout, area, cursor, how)
+    step::next(layout, area, cursor, how)
 }
 
 // The seek: to the start of a row, or refusal 12 if there is no such row. Refused with 10 first, as `next` is.

@@ -23,18 +23,18 @@ module _ (lines now : List (List ℕ)) (out₀ out : List ℕ) (at : ℕ) (f : F
     full h = subst (λ (x : List (List ℕ)). Ended lines x out₀ out at) e (ends_full lines out₀ out at t ts filled h)
 
 -- no line is next
-none_left : (c : In_default) → Ended (left_in c.args.self.now c.args.layout c.args.state) (left_in c.args.self.now c.args.layout c.loop-line.current) c.args.out.now c.loop-line.out c.loop-line.len
+none_left : (c : In_default) → Ended (left_in c.args.self.now c.args.state) (left_in c.args.self.now c.loop-line.current) c.args.out.now c.loop-line.out c.loop-line.len
 none_left c = over _ _ _ _ _ c.loop-line.invariant (rw c.in_default.is at c.next_line-next.ensures)
 
 -- there is no room for the next line
 module _ (c : In_default-written) where
   abbrev next : List ℕ
-  next = line_text c.args.self.now.header.now c.args.layout c.in-Some.field-0.line
+  next = line_text c.args.self.now.header.now c.args.self.now.layout.now c.in-Some.field-0.line
 
   short : Full c.loop-line.out c.loop-line.len next
-  short = no_room c.loop-line.out c.loop-line.len next (sym c.in_default-written.is ∙ c.put_line-written.ensures.to)
+  short = no_room c.loop-line.out c.loop-line.len next (sym c.in_default-written.is ∙ c.put_line_of-written.ensures.to)
 
-  ended : Ended (left_in c.args.self.now c.args.layout c.args.state) (left_in c.args.self.now c.args.layout c.loop-line.current) c.args.out.now c.loop-line.out c.loop-line.len
+  ended : Ended (left_in c.args.self.now c.args.state) (left_in c.args.self.now c.loop-line.current) c.args.out.now c.loop-line.out c.loop-line.len
   ended = full _ _ _ _ _ c.loop-line.invariant _ _ (rw c.in-Some.is at c.next_line-next.ensures) short.full
 
 pub returns-in_default-clause-len : goal.returns-in_default-clause-len
@@ -52,7 +52,7 @@ returns-in_default-written-clause-len c = (ended (goal.at.returns-in_default-wri
 pub returns-in_default-written-clause-buffer : goal.returns-in_default-written-clause-buffer
 returns-in_default-written-clause-buffer c =
     let d = (goal.at.returns-in_default-written-clause-buffer c).In_default-written in
-    c.put_line-written.ensures.buffer ∙ (short d).same ∙ (ended d).buffer
+    c.put_line_of-written.ensures.buffer ∙ (short d).same ∙ (ended d).buffer
 
 pub returns-in_default-written-clause-state : goal.returns-in_default-written-clause-state
 returns-in_default-written-clause-state c = (ended (goal.at.returns-in_default-written-clause-state c).In_default-written).state
@@ -60,13 +60,13 @@ returns-in_default-written-clause-state c = (ended (goal.at.returns-in_default-w
 pub returns-in_default-written-clause-whole : goal.returns-in_default-written-clause-whole
 returns-in_default-written-clause-whole c room none =
     let d = (goal.at.returns-in_default-written-clause-whole c).In_default-written in
-    absurd (omega (arith, (short d).full, line_short c.args.self.now.header.now c.args.layout c.in-Some.field-0.line, c.loop-line.invariant.length_same))
+    absurd (omega (arith, (short d).full, line_short c.args.self.now.header.now c.args.self.now.layout.now c.in-Some.field-0.line, c.loop-line.invariant.length_same))
 
 pub loop-line-preserved : goal.loop-line-preserved
 loop-line-preserved c =
-    let t = line_text c.args.self.now.header.now c.args.layout c.in-Some.field-0.line in
+    let t = line_text c.args.self.now.header.now c.args.self.now.layout.now c.in-Some.field-0.line in
     let r = written_to_lem c.loop-line.out c.loop-line.len t c.in-Some-written.end
-    (sym c.in-Some-written.is ∙ c.put_line-written.ensures.to) in
-    more_filled _ _ _ _ t _ c.put_line-written.new.out c.in-Some-written.end
+    (sym c.in-Some-written.is ∙ c.put_line_of-written.ensures.to) in
+    more_filled _ _ _ _ t _ c.put_line_of-written.new.out c.in-Some-written.end
     (filled _ _ _ _ _ c.loop-line.invariant _ _ (rw c.in-Some.is at c.next_line-next.ensures))
-    r c.put_line-written.ensures.buffer (line_some c.args.self.now.header.now c.args.layout c.in-Some.field-0.line)
+    r c.put_line_of-written.ensures.buffer (line_some c.args.self.now.header.now c.args.self.now.layout.now c.in-Some.field-0.line)

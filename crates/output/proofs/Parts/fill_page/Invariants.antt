@@ -6,8 +6,8 @@ use Rattle.output.proofs.Parts.fill_page.Given as goal
 
 abbrev pub invariant-loop-line : goal.invariant-loop-line
 invariant-loop-line l =
-    Filled (left_in l.self l.layout l.fn.state) (left_in l.self l.layout l.current)
+    Filled (left_in l.self l.fn.state) (left_in l.self l.current)
     l.fn.out l.out l.len
 
 abbrev pub decreases-loop-line : goal.decreases-loop-line
-decreases-loop-line l = length (left_in l.self l.layout l.current)
+decreases-loop-line l = length (left_in l.self l.current)
