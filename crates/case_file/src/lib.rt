@@ -44,7 +44,7 @@ pub trait Case<'a>: Sized {
     fn split(bytes: &'a [u8]) -> Option<(Self, &'a [u8])>
         ensures shorter { IfSome result (λ p. length p.1.now < length bytes.now) };
 
-    // Prints it under its number. A write that fails is passed over, and what follows it is still written.
+    // Prints it under its number. A write that fails is passed over, and the next one is tried all the same.
     fn print(self, rt: &HostRuntime, number: usize);
 }
 

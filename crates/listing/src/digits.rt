@@ -18,8 +18,8 @@ impl Writer {
         self.put_number(n.unsigned_abs());
     }
 
-    // The last digits of a number, as many as the width says, with zeros in front of a shorter one. They are set down in
-    // an array from the last to the first and put at once: put one by one, they take four times the instructions.
+    // The last digits of a number, as many as the width says, with zeros in front of a shorter one. They are set down
+    // in an array from the last to the first and put at once: put one by one, they take four times the instructions.
     #[tactic(auto, using(crate::proofs::Lengths::hex_length))]
     pub(crate) fn put_hex(&mut self, n: u64, width: u8)
         requires { (width ≤ 16) × (length self.old + width ≤ room) }

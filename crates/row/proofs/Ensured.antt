@@ -27,6 +27,7 @@ use Rattle.walk.specs.Step.{all_columns, listed}
 use Rattle.table.specs.contracts.open as table_open
 use Rattle.table.specs.contracts.select_fields as table_select_fields
 use Rattle.table.specs.contracts.next as table_next
+use Rattle.table.specs.contracts.next_of as table_next_of
 use Rattle.table.specs.contracts.seek_to_row as table_seek_to_row
 use Rattle.row.specs.declared.owners.RowCell.{RowCell}
 use Rattle.row.specs.Owned.{own_list, own_read}
@@ -65,6 +66,12 @@ module _ {M : Type 1} {𝓤 : Ura M} (𝓛 : Logic 𝓤) (mem : Memory → SProp
         → (table_next.clauses 𝓛 mem run (κ, tt) (l, (area, (cursor, (how, tt))))).ensures tt r (l, (area, (cursor, (how, tt))))
         ≡ fact 𝓤 (NextEnsures l area.now cursor how r)
     next_ensures how r = refl
+
+    -- over a lent layout, as `cells` and `replay` read
+    pub next_of_ensures : (lent : Bor BinTable) (how : How) (r : Stepped (Option Cell))
+        → (table_next_of.clauses 𝓛 mem run (κ, (κ', tt)) (lent, (area, (cursor, (how, tt))))).ensures tt r (lent, (area, (cursor, (how, tt))))
+        ≡ fact 𝓤 (NextEnsures lent.now area.now cursor how r)
+    next_of_ensures lent how r = refl
 
     pub row_ensures : (how : How) (list after : MutBor (List Cell)) (r : Stepped (Option ℕ))
         → (read_row_by_value.clauses 𝓛 mem run (κ, (κ', tt)) (l, (area, (cursor, (how, (list, tt)))))).ensures tt r (l, (area, (cursor, (how, (after, tt)))))
