@@ -99,9 +99,16 @@ pub const EMPTY_LAYOUT: BinTable = BinTable {
 };
 
 // Whether a layout, which anybody can make, keeps every limit and sum.
-#[tactic(auto, unfolding(crate::specs::Layout::layout_ok))]
 pub fn layout_ok(layout: BinTable) -> bool
     ensures { result ≡ layout_ok layout }
+{
+    layout_ok_of(&layout)
+}
+
+// The same over a layout that is lent, which is not copied.
+#[tactic(auto, unfolding(crate::specs::Layout::layout_ok))]
+pub fn layout_ok_of(layout: &BinTable) -> bool
+    ensures { result ≡ layout_ok layout.now }
 {
     layout.naxis1 <= NAXIS1_LIMIT
         && layout.naxis2 <= NAXIS2_LIMIT

@@ -6,11 +6,11 @@ use super::BinTable;
 
 // Whether each count is within its limit, each column starts where the one before ends, and the last ends with the
 // row.
-pub fn columns_ok(layout: BinTable) -> bool
-    ensures { result ≡ columns_ok layout.naxis1 0 (columns_of layout) }
+pub fn columns_ok(layout: &BinTable) -> bool
+    ensures { result ≡ columns_ok layout.now.naxis1 0 (columns_of layout.now) }
 {
     let mut at: u64 = 0;
-    for column in super::columns(&layout) {
+    for column in super::columns(layout) {
         if !tform::count_ok(column.form, column.count) {
             return false;
         }

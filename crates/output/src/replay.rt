@@ -120,7 +120,7 @@ impl Parts<'_> {
                 row_answered(read.stepped, after, cursor, how, cells)
             }
             Command::Seek(row) => {
-                let stepped = table::seek_to_row(*self.layout, self.area, cursor, row);
+                let stepped = table::seek_to_row_of(self.layout, self.area, cursor, row);
                 seek_answered(stepped, row, after)
             }
             Command::ChooseAll | Command::Choose | Command::Heap(_) => bad_line(self.steps, at),

@@ -29,6 +29,7 @@ use Rattle.table.specs.contracts.select_fields as table_select_fields
 use Rattle.table.specs.contracts.next as table_next
 use Rattle.table.specs.contracts.next_of as table_next_of
 use Rattle.table.specs.contracts.seek_to_row as table_seek_to_row
+use Rattle.table.specs.contracts.seek_to_row_of as table_seek_to_row_of
 use Rattle.row.specs.declared.owners.RowCell.{RowCell}
 use Rattle.row.specs.Owned.{own_list, own_read}
 use Rattle.row.specs.Ran.{EntryEnsures, OpenEnsures, NextEnsures, RowEnsures, SeekEnsures, LentNextEnsures, LentRowEnsures, LentSeekEnsures}
@@ -82,6 +83,12 @@ module _ {M : Type 1} {𝓤 : Ura M} (𝓛 : Logic 𝓤) (mem : Memory → SProp
         → (table_seek_to_row.clauses 𝓛 mem run (κ, tt) (l, (area, (cursor, (row, tt))))).ensures tt r (l, (area, (cursor, (row, tt))))
         ≡ fact 𝓤 (SeekEnsures l area.now cursor row r)
     seek_ensures row r = refl
+
+    -- over a lent layout, as `replay` seeks
+    pub seek_of_ensures : (lent : Bor BinTable) (row : ℕ) (r : Stepped Unit)
+        → (table_seek_to_row_of.clauses 𝓛 mem run (κ, (κ', tt)) (lent, (area, (cursor, (row, tt))))).ensures tt r (lent, (area, (cursor, (row, tt))))
+        ≡ fact 𝓤 (SeekEnsures lent.now area.now cursor row r)
+    seek_of_ensures lent row r = refl
 
     -- ---- the owners
 

@@ -130,11 +130,18 @@ pub fn next_of(layout: &BinTable, area: &[u8], cursor: TableData, how: How) -> S
 }
 
 // The seek: to the start of a row, or refusal 12 if there is no such row. Refused with 10 first, as `next` is.
-#[tactic(auto, using(walk::proofs::Steps::step_unfit, walk::proofs::Steps::seek_at))]
 pub fn seek_to_row(layout: BinTable, area: &[u8], cursor: TableData, row: usize) -> Stepped<()>
     ensures { seek_result result.cursor result.answer ≡ cursor_step layout area.now cursor (seek row) }
 {
-    if belongs(layout, area, cursor) {
+    seek_to_row_of(&layout, area, cursor, row)
+}
+
+// The same over a layout that is lent.
+#[tactic(auto, using(walk::proofs::Steps::step_unfit, walk::proofs::Steps::seek_at))]
+pub fn seek_to_row_of(layout: &BinTable, area: &[u8], cursor: TableData, row: usize) -> Stepped<()>
+    ensures { seek_result result.cursor result.answer ≡ cursor_step layout.now area.now cursor (seek row) }
+{
+    if belong::belongs_of(layout, area, cursor) {
         return step::seek(layout.naxis2, cursor, row);
     }
     Stepped {

@@ -86,7 +86,7 @@ fn read_cell(layout: &BinTable, area: &[u8], cursor: TableData, how: How) -> Ste
 pub fn next(layout: &BinTable, area: &[u8], cursor: TableData, how: How) -> Stepped<Option<Cell>>
     ensures { cell_result result.cursor result.answer ≡ cursor_step layout.now area.now cursor (read_cell how) }
 {
-    if belong::belongs(*layout, area, cursor) {
+    if belong::belongs_of(layout, area, cursor) {
         return read_cell(layout, area, cursor, how);
     }
     Stepped {

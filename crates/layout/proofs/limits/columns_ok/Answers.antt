@@ -20,7 +20,7 @@ pub overflow_add-at : goal.overflow_add-at
 overflow_add-at c =
     let column = get_or c.columns-column-items.result.now c.loop-column.column-index no_column in
     let small = column_limit column (sym c.count_ok.ensures ∙ c.if-not-count_ok.false) in
-    omega (arith, c.num_bytes_field-at.ensures, small, ap (λ (cs : List Column). length cs) c.columns-column-items.ensures, length-take c.args.layout.tfields c.args.layout.columns)
+    omega (arith, c.num_bytes_field-at.ensures, small, ap (λ (cs : List Column). length cs) c.columns-column-items.ensures, length-take c.args.layout.now.tfields c.args.layout.now.columns)
 
 pub loop-column-preserved : goal.loop-column-preserved
 loop-column-preserved c =

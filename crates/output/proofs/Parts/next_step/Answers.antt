@@ -43,7 +43,7 @@ returns-in-Seek c =
     let y = sym (c.in-Some.is ∙ ap Some c.in-Seek.is) ∙ c.parse_command.ensures in
     rw c.seek_answered-next.ensures
     (seek_next_lem a.self.now.header.now a.self.now.layout.now a.self.now.area.now a.self.now.steps.now (a.at + length line + 1) a.cursor
-    row c.seek_to_row-stepped.result c.seek_to_row-stepped.ensures
+    row c.seek_to_row_of-stepped.result c.seek_to_row_of-stepped.ensures
     ∙ steps_command a.self.now.layout.now a.self.now.area.now a.self.now.steps.now a.at a.cursor line (Some (C.Seek row)) c.if-self-at.false c.line_at-line.ensures y)
 
 pub returns-in_default : goal.returns-in_default
