@@ -1,13 +1,17 @@
-// What the programs that read a file of cases share: the numbers and blocks of such a file, and the loop over its
-// cases.
+// What the programs that read a file of cases share: the numbers and blocks of such a file, the loop over its cases,
+// and where they print.
 #![tactic(auto)]
 
 ghost use Rattle.std.specs.Prelude.{◌≡◌, ◌+◌, ◌<◌, length, drop, IfSome, MatchOption};
 ghost use Rattle.std.specs.Iterator.{at_most};
+ghost use Rattle.std.specs.declared.option.Option.TheVariants.{Some};
 ghost use Rattle.std.specs.List.{IsSplitAt};
+ghost use Rattle.std.specs.Fmt.{signed_decimal};
 ghost use Rattle.case_file.specs.Number.{front_number};
 
 use refusal::Refusal;
+use std::fmt;
+use std::fmt::Write;
 use std::marker::PhantomData;
 
 // The number that the first four bytes say, high byte first, and what stands after it; none where there are fewer.
@@ -30,11 +34,40 @@ pub fn split_block(bytes: &[u8]) -> Option<(&[u8], &[u8])>
     rest.split_at_checked(len as usize)
 }
 
-// Prints what the checks come to: the refusal, or the word where there is none. A write that fails is passed over.
-pub fn print_check(rt: &impl Print, refusal: Option<Refusal>, passed: &str) {
+// Standard output in pieces: each text that it is given is a write of its own, as is each word and each number of a
+// format. A write that fails is passed over, and the next one is tried all the same.
+#[derive(Clone, Copy)]
+pub struct Output<'a>(&'a HostRuntime);
+
+impl fmt::Write for Output<'_> {
+    fn write_str(&mut self, text: &str) -> fmt::Result {
+        let _ = self.0.write_all(text.as_bytes());
+        Ok(())
+    }
+}
+
+// A number whose sign, if it is negative, is a piece of its own.
+#[derive(Clone, Copy)]
+pub struct Signed(pub i64);
+
+impl fmt::Display for Signed {
+    ghost output = { λ s. Some (signed_decimal s.0) };
+
+    fn fmt<W: fmt::Write>(&self, f: &mut fmt::Formatter<W>) -> fmt::Result {
+        let magnitude = self.0.unsigned_abs();
+        if self.0 < 0 {
+            write!(f, "-{magnitude}")
+        } else {
+            write!(f, "{magnitude}")
+        }
+    }
+}
+
+// Prints what the checks come to: the refusal, or the line where there is none, which is one piece.
+pub fn print_check(out: &mut Output, refusal: Option<Refusal>, passed: &str) {
     let _ = match refusal {
-        None => println!(rt; "{passed}"),
-        Some(refusal) => println!(rt; "{refusal}"),
+        None => write!(out, "{passed}"),
+        Some(refusal) => writeln!(out, "{refusal}"),
     };
 }
 
@@ -44,8 +77,8 @@ pub trait Case<'a>: Sized {
     fn split(bytes: &'a [u8]) -> Option<(Self, &'a [u8])>
         ensures shorter { IfSome result (λ p. length p.1.now < length bytes.now) };
 
-    // Prints it under its number. A write that fails is passed over, and the next one is tried all the same.
-    fn print(self, rt: &HostRuntime, number: usize);
+    // Prints it under its number.
+    fn print(self, out: &mut Output, number: usize);
 }
 
 // The cases of a file, one after the other. A last one that is cut short comes as `None`, and nothing after it.
@@ -89,11 +122,12 @@ impl<'a, C: Case<'a>> Iterator for Cases<'a, C> {
 // Prints each case of a file, by its number from 0, and `cut` after them where the last one is cut short. The file's
 // bytes outlive its cases, so they are the caller's.
 pub fn print_cases<'a, C: Case<'a>>(rt: &HostRuntime, file: &'a [u8]) {
+    let mut out = Output(rt);
     for (number, case) in Cases::<C>::new(file).enumerate() {
         match case {
-            Some(case) => case.print(rt, number),
+            Some(case) => case.print(&mut out, number),
             None => {
-                let _ = println!(rt; "cut");
+                let _ = writeln!(out, "cut");
             }
         }
     }

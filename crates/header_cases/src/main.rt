@@ -6,35 +6,36 @@
 ghost use Rattle.std.specs.Prelude.{◌<◌, length, IfSome};
 
 use card::Value;
-use case_file::Case;
+use case_file::{Case, Output, Signed};
 use header::Entry;
+use std::fmt::Write;
 use std::{fmt, fs, io};
 
-// A value as it is printed.
+// A value as it is printed, after a space.
 #[derive(Clone, Copy)]
 struct Shown(Option<Value>);
 
 impl fmt::Display for Shown {
     fn fmt<W: fmt::Write>(&self, f: &mut fmt::Formatter<W>) -> fmt::Result {
         match self.0 {
-            Some(Value::Integer(number)) => write!(f, "integer {number}"),
-            Some(Value::String { start, len }) => write!(f, "string {start} {len}"),
-            None => write!(f, "invalid"),
+            Some(Value::Integer(number)) => write!(f, " integer {}", Signed(number)),
+            Some(Value::String { start, len }) => write!(f, " string {start} {len}"),
+            None => write!(f, " invalid"),
         }
     }
 }
 
 // The line of a slot that has a record.
-fn print_slot(rt: &impl Print, header: &[u8], slot: usize, entry: Entry) {
+fn print_slot(out: &mut Output, header: &[u8], slot: usize, entry: Entry) {
     let Some(record) = entry.first else {
         return;
     };
     let value = Shown(card::parse_value(header, record as usize));
-    let _ = print!(rt; "slot {slot} record {record} {value}");
+    let _ = write!(out, "slot {slot} record {record}{value}");
     if let Some(again) = entry.second {
-        let _ = print!(rt; " again {again}");
+        let _ = write!(out, " again {again}");
     }
-    let _ = println!(rt; "");
+    let _ = writeln!(out);
 }
 
 #[derive(Clone, Copy)]
@@ -46,14 +47,19 @@ impl<'a> Case<'a> for Header<'a> {
         Some((Header(header), rest))
     }
 
-    fn print(self, rt: &HostRuntime, number: usize) {
+    fn print(self, out: &mut Output, number: usize) {
         let Header(header) = self;
-        let _ = println!(rt; "case {number} length {}", header.len());
-        let _ = println!(rt; "header {}", header::header_len(header));
+        // The first line ends in the piece that the second begins with.
+        let _ = writeln!(
+            out,
+            "case {number} length {}\nheader {}",
+            header.len(),
+            header::header_len(header)
+        );
         let parsed = header::parse(header);
-        case_file::print_check(rt, parsed.check.err(), "passed");
+        case_file::print_check(out, parsed.check.err(), "passed\n");
         for (slot, entry) in parsed.index.iter().enumerate() {
-            print_slot(rt, header, slot, *entry);
+            print_slot(out, header, slot, *entry);
         }
     }
 }

@@ -9,9 +9,10 @@ mod shown;
 ghost use Rattle.std.specs.Prelude.{◌≤◌, ◌<◌, length, IfSome};
 ghost use Rattle.std.specs.Iterator.{at_most};
 
-use case_file::Case;
+use case_file::{Case, Output};
 use layout::{BinTable, Column, EMPTY_LAYOUT, TFIELDS_LIMIT};
 use shown::{Bytes, Factors, Form, Missing, Place, Stretch};
+use std::fmt::Write;
 use std::{fs, io};
 
 // The longest data area of a case.
@@ -59,27 +60,29 @@ impl<'a> Iterator for Names<'a> {
     }
 }
 
-fn print_sizes(rt: &impl Print, layout: &BinTable) {
-    let _ = print!(rt; "table {} columns {} rows", layout.tfields, layout.naxis2);
-    let _ = println!(rt;
-        " {} bytes {} pcount {} theap",
-        layout.naxis1, layout.pcount, layout.theap
+fn print_sizes(out: &mut Output, layout: &BinTable) {
+    let _ = writeln!(
+        out,
+        "table {} columns {} rows {} bytes {} pcount {} theap",
+        layout.tfields, layout.naxis2, layout.naxis1, layout.pcount, layout.theap
     );
 }
 
-fn print_column(rt: &impl Print, number: usize, column: &Column) {
+fn print_column(out: &mut Output, number: usize, column: &Column) {
     let form = Form(column.form);
     let bytes = tform::num_bytes_field(column.form, column.count);
-    let _ = print!(rt;
-        "column {number} {form} {} at {} bytes {bytes}",
-        column.count, column.start
+    let _ = write!(
+        out,
+        "column {number} {form} {} at {} bytes {bytes}{}",
+        column.count,
+        column.start,
+        Stretch(column.name)
     );
-    let _ = print!(rt; " {}", Stretch(column.name));
     // The scaling of a column with neither keyword is seen in what it reads.
     if column.scaling_given {
-        let _ = print!(rt; "{}", Factors(column.scaling));
+        let _ = write!(out, "{}", Factors(column.scaling));
     }
-    let _ = println!(rt; "{}", Missing(column.null));
+    let _ = writeln!(out, "{}", Missing(column.null));
 }
 
 #[derive(Clone, Copy)]
@@ -94,21 +97,21 @@ struct Table<'a> {
 
 impl Table<'_> {
     // The name of each column and of one more, from the whole header and from its front.
-    fn print_names(&self, rt: &impl Print, layout: BinTable) {
+    fn print_names(&self, out: &mut Output, layout: BinTable) {
         for i in 0..=layout.tfields.min(TFIELDS_LIMIT) {
             let full = Bytes(layout::column_name(self.header, layout, i));
-            let _ = println!(rt; "name {i} full{full}");
+            let _ = writeln!(out, "name {i} full{full}");
             let cut = Bytes(layout::column_name(self.front, layout, i));
-            let _ = println!(rt; "name {i} cut{cut}");
+            let _ = writeln!(out, "name {i} cut{cut}");
         }
     }
 
-    fn print_finds(&self, rt: &impl Print, layout: BinTable) {
+    fn print_finds(&self, out: &mut Output, layout: BinTable) {
         for (i, name) in Names(self.names).take(usize::from(self.count)).enumerate() {
             let full = Place(layout::find_field_by_ttype(self.header, layout, name));
-            let _ = println!(rt; "find {i} full {full}");
+            let _ = writeln!(out, "find {i} full{full}");
             let cut = Place(layout::find_field_by_ttype(self.front, layout, name));
-            let _ = println!(rt; "find {i} cut {cut}");
+            let _ = writeln!(out, "find {i} cut{cut}");
         }
     }
 }
@@ -129,18 +132,18 @@ impl<'a> Case<'a> for Table<'a> {
         Some((table, after_names(names, *count)))
     }
 
-    fn print(self, rt: &HostRuntime, number: usize) {
-        let _ = println!(rt; "case {number}");
+    fn print(self, out: &mut Output, number: usize) {
+        let _ = writeln!(out, "case {number}");
         let parsed = bintable::parse(self.header, self.area);
         // Of a table that is refused the empty layout is shown.
         let layout = parsed.unwrap_or(EMPTY_LAYOUT);
-        case_file::print_check(rt, parsed.err(), "accepted");
-        print_sizes(rt, &layout);
+        case_file::print_check(out, parsed.err(), "accepted\n");
+        print_sizes(out, &layout);
         for (i, column) in layout.columns.iter().take(layout.tfields).enumerate() {
-            print_column(rt, i, column);
+            print_column(out, i, column);
         }
-        self.print_names(rt, layout);
-        self.print_finds(rt, layout);
+        self.print_names(out, layout);
+        self.print_finds(out, layout);
     }
 }
 

@@ -1,4 +1,6 @@
-// What is printed of a form, a name, a scaling, a null, a column that was found, and a stretch of bytes.
+// What is printed of a form, a name, a scaling, a null, a column that was found, and a stretch of bytes. All but a
+// form begin with a space, so that it is of one piece with a word after it.
+use case_file::Signed;
 use layout::{Name, Null, Scaling};
 use std::{fmt, num};
 use tform::TFormType;
@@ -24,8 +26,8 @@ pub struct Stretch(pub Option<Name>);
 impl fmt::Display for Stretch {
     fn fmt<W: fmt::Write>(&self, f: &mut fmt::Formatter<W>) -> fmt::Result {
         match self.0 {
-            None => write!(f, "missing"),
-            Some(Name { start, len }) => write!(f, "stretch {start} {len}"),
+            None => write!(f, " missing"),
+            Some(Name { start, len }) => write!(f, " stretch {start} {len}"),
         }
     }
 }
@@ -51,7 +53,7 @@ impl fmt::Display for Missing {
     fn fmt<W: fmt::Write>(&self, f: &mut fmt::Formatter<W>) -> fmt::Result {
         match self.0 {
             Null::NotGiven => Ok(()),
-            Null::Number(number) => write!(f, " null {number}"),
+            Null::Number(number) => write!(f, " null {}", Signed(number)),
             Null::OutOfRange => write!(f, " null out of range"),
         }
     }
@@ -64,13 +66,13 @@ pub struct Place(pub Option<usize>);
 impl fmt::Display for Place {
     fn fmt<W: fmt::Write>(&self, f: &mut fmt::Formatter<W>) -> fmt::Result {
         match self.0 {
-            Some(column) => write!(f, "{column}"),
-            None => write!(f, "none"),
+            Some(column) => write!(f, " {column}"),
+            None => write!(f, " none"),
         }
     }
 }
 
-// Each byte as a number, after a space.
+// Each byte as a number.
 #[derive(Clone, Copy)]
 pub struct Bytes<'a>(pub &'a [u8]);
 

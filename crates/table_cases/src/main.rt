@@ -22,26 +22,26 @@ mod shown;
 
 ghost use Rattle.std.specs.Prelude.{◌<◌, length, IfSome};
 
-use case_file::Case;
+use case_file::{Case, Output};
 use file::{HEADER_LIMIT, Step, TableCase};
 use layout::BinTable;
 use reader::Reader;
-use shown::Shown;
+use shown::Line;
+use std::fmt::Write;
 use std::{fs, io};
 use walk::TableData;
 
 // The cursor as a step puts it.
-fn print_put(rt: &impl Print, cursor: TableData) -> TableData {
-    let _ = println!(rt; "put");
-    let _ = println!(rt; "{}", Shown(cursor));
+fn print_put(out: &mut Output, cursor: TableData) -> TableData {
+    let _ = write!(out, "put\n{}", Line(cursor));
     cursor
 }
 
 // The cursor after a step, whose answers are printed.
-fn print_step(rt: &impl Print, layout: BinTable, cursor: TableData, step: Step) -> TableData {
+fn print_step(out: &mut Output, layout: BinTable, cursor: TableData, step: Step) -> TableData {
     match step {
         Step::Put { row, passed, count } => print_put(
-            rt,
+            out,
             TableData {
                 row,
                 passed,
@@ -49,7 +49,7 @@ fn print_step(rt: &impl Print, layout: BinTable, cursor: TableData, step: Step) 
                 ..cursor
             },
         ),
-        Step::Choose(choice) => print_put(rt, TableData { choice, ..cursor }),
+        Step::Choose(choice) => print_put(out, TableData { choice, ..cursor }),
         Step::Call {
             call,
             how,
@@ -65,7 +65,7 @@ fn print_step(rt: &impl Print, layout: BinTable, cursor: TableData, step: Step) 
             };
             let mut current = cursor;
             for _ in 0..times {
-                current = reader.print_call(rt, current, call);
+                current = reader.print_call(out, current, call);
             }
             current
         }
@@ -78,28 +78,27 @@ impl<'a> Case<'a> for TableCase<'a> {
         Some((TableCase::new(body), rest))
     }
 
-    fn print(self, rt: &HostRuntime, number: usize) {
-        let _ = println!(rt; "case {number}");
+    fn print(self, out: &mut Output, number: usize) {
+        let _ = writeln!(out, "case {number}");
         let mut buffer = [b' '; HEADER_LIMIT];
         let layout = match bintable::parse(self.header(&mut buffer), self.entry) {
             Ok(layout) => layout,
             Err(refusal) => {
-                let _ = println!(rt; "{refusal}");
+                let _ = writeln!(out, "{refusal}");
                 return;
             }
         };
-        let _ = println!(rt; "accepted");
+        let _ = writeln!(out, "accepted");
         let mut cursor = match self.open(layout) {
             Ok(cursor) => cursor,
             Err(refusal) => {
-                let _ = println!(rt; "{refusal}");
+                let _ = writeln!(out, "{refusal}");
                 return;
             }
         };
-        let _ = println!(rt; "opened");
-        let _ = println!(rt; "{}", Shown(cursor));
+        let _ = write!(out, "opened\n{}", Line(cursor));
         for step in self.steps() {
-            cursor = print_step(rt, layout, cursor, Step::new(step, self.areas));
+            cursor = print_step(out, layout, cursor, Step::new(step, self.areas));
         }
     }
 }
