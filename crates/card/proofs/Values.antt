@@ -51,10 +51,6 @@ module _ (most : ℕ) (fit : most ≤ 19) (s : List ℕ) (n : ℕ) (e : n ≡ fr
         (λ t. let z : front digit s ≡ 0 = omega (arith, eqb-true n 0 t, e) in rw z)
         (λ t. let y : None ≡ Some (decimal 0 (take n s)) = r ∙ digits_read (λ z. eqb-false n 0 t z) in cc)
 
-    pub digits_before : follows (drop n s) ≡ false → digits_value most minus s ≡ None
-    unfolding digits_value
-    digits_before f = rw (← e, f, and-false (leb n most), and-false (ltb 0 n))
-
     pub digits_say : follows (drop n s) ≡ true → (v : ℕ) → Read v → Some (signed minus v) ≡ digits_value most minus s
     unfolding digits_value
     digits_say f v r =
@@ -64,6 +60,10 @@ pub digits_over : (most : ℕ) (minus : Bool) (s : List ℕ) → most < front di
 unfolding digits_value
 digits_over most minus s h = rw (lt-leb (front digit s) most h, and-false (ltb 0 (front digit s)))
 
+pub digits_before : (most : ℕ) (minus : Bool) (s : List ℕ) → follows (drop (front digit s) s) ≡ false → digits_value most minus s ≡ None
+unfolding digits_value
+digits_before most minus s f = rw (f, and-false (leb (front digit s) most), and-false (ltb 0 (front digit s)))
+
 module _ (s : List ℕ) (start : ℕ) where
   pub string_open : None ≡ closing_place s → string_value start s ≡ None
   unfolding string_value
@@ -72,13 +72,16 @@ module _ (s : List ℕ) (start : ℕ) where
       (λ t. let y : None ≡ Some (closing s) = rw t at e in cc)
       (λ t. rw t)
 
+  pub string_before : follows (drop (closing s + 1) s) ≡ false → string_value start s ≡ None
+  unfolding string_value
+  string_before f = rw (f, and-false (ltb (closing s) (length s)))
+
   module _ (n : ℕ) (e : Some n ≡ closing_place s) where
     closes : (ltb (closing s) (length s) ≡ true) × (closing s ≡ n)
     closes = cond_some (ltb (closing s) (length s)) (closing s) n (sym e)
 
-    pub string_before : follows (take (length s - (n + 1)) (drop (n + 1) s)) ≡ false → string_value start s ≡ None
-    unfolding string_value
-    string_before f = rw (closes.0, closes.1, ap follows (sym (part_from s (n + 1))) ∙ f)
+    pub string_unfollowed : follows (take (length s - (n + 1)) (drop (n + 1) s)) ≡ false → string_value start s ≡ None
+    string_unfollowed f = string_before (ap (λ (k : ℕ). follows (drop (k + 1) s)) closes.1 ∙ ap follows (sym (part_from s (n + 1))) ∙ f)
 
     pub string_says : follows (take (length s - (n + 1)) (drop (n + 1) s)) ≡ true
         → string_value start s ≡ Some (String start (length (trim (take n s))))

@@ -29,9 +29,18 @@ use Rattle.exports.specs.Loops.{cells_from, rows_from}
 
 -- ---- the layout
 
--- it has no more columns than there is room for
-pub few_columns : (h a : List ℕ) (l : BinTable) → B.accepted l ≡ B.entry h a → l.tfields ≤ 64
-few_columns h a l e = (limits l (entry_ok h a l (sym e))).columns
+module _ (h a : List ℕ) where
+  -- it has no more columns than there is room for
+  pub few_accepted : (l : BinTable) → B.accepted l ≡ B.entry h a → l.tfields ≤ 64
+  few_accepted l e = (limits l (entry_ok h a l (sym e))).columns
+
+  -- nor has the one beside a refusal
+  pub few_columns : (B.layout_in (B.entry h a)).tfields ≤ 64
+  few_columns = go (B.entry h a) refl
+    where
+      go : (e : B.Entry) → B.entry h a ≡ e → (B.layout_in e).tfields ≤ 64
+      go (B.accepted l) q = few_accepted l (sym q)
+      go (B.refused n p) q = omega arith
 
 -- ---- the cursor
 

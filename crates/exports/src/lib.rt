@@ -127,7 +127,7 @@ pub extern "C" fn coentrift_sum_rows(
 }
 
 // The checksum of the layout. It opens nothing, so its match is its own too.
-#[tactic(auto, using(crate::proofs::Opened::few_columns))]
+#[tactic(auto, using(crate::proofs::Opened::few_accepted))]
 #[unsafe(no_mangle)]
 pub extern "C" fn coentrift_layout(header: &[u8], area: &[u8]) -> u64
     ensures { result ≡ entry_sum header.now (entry header.now area.now) }

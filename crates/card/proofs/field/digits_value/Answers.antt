@@ -1,5 +1,5 @@
 -- `digits_value` meets its contract: so many digits are a number, of 19 at most.
-use Rattle.std.proofs.Common.{sym, ◌∙◌, ap, arith, rules, Some, FitsSigned}
+use Rattle.std.proofs.Common.{ℕ, drop, sym, ◌∙◌, ap, arith, rules, Some, FitsSigned}
 use Rattle.std.specs.Int.{w128}
 use Rattle.std.proofs.lemmas.Int.{to_z-of_z}
 use Rattle.ascii.specs.Text.{digit}
@@ -18,8 +18,8 @@ split_at-requires c = omega (arith, front_le digit c.args.s.now)
 pub returns-then-not-may_follow : goal.returns-then-not-may_follow
 returns-then-not-may_follow c =
     let n = c.leading_digits-n in
-    let f = ap follows (sym c.split_at.ensures.back) ∙ sym c.may_follow.ensures ∙ c.if-not-may_follow.true in
-    sym (digits_before c.args.most c.requires c.args.s.now n.result n.ensures c.if-n-most.false c.args.minus f)
+    let back = ap (λ (k : ℕ). drop k c.args.s.now) (sym n.ensures) ∙ sym c.split_at.ensures.back in
+    sym (digits_before c.args.most c.args.minus c.args.s.now (ap follows back ∙ sym c.may_follow.ensures ∙ c.if-not-may_follow.true))
 
 pub returns-in_err-number : goal.returns-in_err-number
 returns-in_err-number c =

@@ -1,7 +1,7 @@
 -- `string_value` meets its contract: the string ends at the quote that closes it, and what may follow a value follows.
 use Rattle.std.proofs.Common.{ℕ, sym, ◌∙◌, ap, Some}
 use Rattle.card.specs.declared.Value.TheVariants.{String}
-use Rattle.card.proofs.Values.{string_open, string_before, string_says}
+use Rattle.card.proofs.Values.{string_open, string_unfollowed, string_says}
 use Rattle.card.proofs.field.string_value.Goals as goal
 
 pub returns-in_err-n : goal.returns-in_err-n
@@ -11,7 +11,7 @@ returns-in_err-n c =
 pub returns-then-not-may_follow : goal.returns-then-not-may_follow
 returns-then-not-may_follow c =
     let n = sym c.in_ok-n.was ∙ c.closing_quote.ensures in
-    sym (string_before c.args.s.now c.args.start c.in_ok-n.n n (sym c.may_follow.ensures ∙ c.if-not-may_follow.true))
+    sym (string_unfollowed c.args.s.now c.args.start c.in_ok-n.n n (sym c.may_follow.ensures ∙ c.if-not-may_follow.true))
 
 pub returns : goal.returns
 returns c =
