@@ -1,4 +1,4 @@
--- Spaces: all of a list, and its end.
+-- Spaces: all of a list, the front of it, and its end.
 -- Assumes nothing.
 use mathlib.Core.Path.{◌≡◌, refl}
 use mathlib.Core.List.{List, [], ◌∷◌}
@@ -7,10 +7,18 @@ use Prim.Native.Nat.{ℕ, zero, suc, ◌≤◌, ◌<◌}
 use native.Mathlib.Nat.{le_of_suc-le-suc, not-suc-le-zero}
 use native.Mathlib.Omega.{arith}
 use lib.ListN.{length, drop, get_or, replicate, take}
-use Rattle.ascii.specs.Text.{space, spaces, trim, same}
+use lib.Dec.{eqb, eqb-zero-suc, eqb-suc-suc}
+use Rattle.ascii.specs.Text.{front, space, spaces, trim, same}
 use Rattle.ascii.proofs.Cases.{either}
 
--- a list has only spaces where it is as many spaces, as END asks after its letters
+-- a list has only spaces where they are as many as its bytes
+pub spaces_count : (s : List ℕ) → spaces s ≡ eqb (front space s) (length s)
+unfolding spaces front
+spaces_count [] = refl
+spaces_count (b ∷ bs) =
+    either (space b) (λ e. rw (e, eqb-suc-suc (front space bs) (length bs)) (spaces_count bs)) (λ e. rw (e, eqb-zero-suc (length bs)))
+
+-- so are the spaces that END asks after its letters
 pub spaces_same : (s : List ℕ) → same s (replicate (length s) 32) ≡ spaces s
 unfolding spaces same
 spaces_same [] = refl

@@ -12,6 +12,7 @@ use lib.Seq.{drop-cons}
 use lib.Dec.{eqb, ltb}
 use borrow.Author.Tests.{eq-eqb, ne_eqb, lt-ltb}
 use Rattle.ascii.specs.Text.{front, space}
+use Rattle.ascii.proofs.Cases.{by_test}
 use Rattle.card.specs.Ends.{follows, closing}
 
 other : (b : ℕ) (bs : List ℕ) → eqb b 39 ≡ false → closing (b ∷ bs) ≡ suc (closing bs)
@@ -28,6 +29,16 @@ double : (b : ℕ) (bs : List ℕ) → eqb b 39 ≡ true → pointwise eqb (take
 unfolding closing
 double b [] e f = absurd (false≢true f)
 double b (c ∷ cs) e f = rw (e, sym (and-true (eqb c 39)) ∙ f)
+
+-- the place of the quote that closes is no further than the end
+pub closing_le : (s : List ℕ) → closing s ≤ length s
+unfolding closing
+closing_le [] = omega arith
+closing_le (b ∷ []) = by_test (λ (n : ℕ). n ≤ 1) (eqb b 39) (λ e. omega arith) (λ e. omega arith)
+closing_le (b ∷ c ∷ cs) =
+    by_test (λ (n : ℕ). n ≤ suc (suc (length cs))) (eqb b 39)
+    (λ e. by_test (λ (n : ℕ). n ≤ suc (suc (length cs))) (eqb c 39) (λ f. omega (arith, closing_le cs)) (λ f. omega arith))
+    (λ e. omega (arith, closing_le (c ∷ cs)))
 
 -- by the byte after the leading spaces, if there is one
 pub follows_none : (s : List ℕ) (n : ℕ) → n ≡ front space s → length s ≤ n → follows s ≡ true

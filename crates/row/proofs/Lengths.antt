@@ -1,4 +1,5 @@
--- The steps of `filled` and of what it asks, one column at a time and from a column to the next that is chosen.
+-- The steps of `filled` and of what it asks, one column at a time and from a column to the next that is chosen; and
+-- that the list stays as long as it was.
 -- Assumes nothing.
 use mathlib.Core.Path.{◌≡◌, refl, ◌∙◌}
 use Prim.Native.Nat.{ℕ, zero, suc, ◌+◌, ◌-◌, ◌≤◌, ◌<◌, ◌^◌}
@@ -6,7 +7,7 @@ use mathlib.Core.Bool.{false}
 use mathlib.Core.List.{List}
 use native.Mathlib.Nat.{add-zero, zero-sub, sub-zero}
 use native.Mathlib.Omega.{arith}
-use lib.ListN.{get_or}
+use lib.ListN.{length, get_or, length-set}
 use lib.Dec.{ltb}
 use borrow.Author.Tests.{ltb-true, ltb-false}
 use Rattle.ascii.proofs.Cases.{either}
@@ -19,6 +20,11 @@ use Rattle.table.specs.Scan.{next_chosen}
 use Rattle.table.proofs.ToNext.{to_next}
 use Rattle.row.specs.declared.plan.RowPlan.{RowPlan}
 use Rattle.row.specs.Plan.{field_plan, planned_cell, PlanOk, stored_at, plan_at, filled, RowFits}
+
+-- the list stays as long as it was
+pub stored_length : (f : ℕ → Cell) (at n : ℕ) (ys : List Cell) → length (stored_at f at n ys) ≡ length ys
+stored_length f at zero ys = refl
+stored_length f at (suc n) ys = length-set (stored_at f at n ys) (at + n) (f n) ∙ stored_length f at n ys
 
 module _ (columns : List Column) (a : List ℕ) (p : RowPlan) (mode : Reading) where
   pub filled_none : (c skip at : ℕ) (ys : List Cell) → filled columns a p mode c zero skip at ys ≡ ys
