@@ -20,7 +20,8 @@ pub fn fits(layout: BinTable, area: &[u8]) -> bool
 pub fn fits_of(layout: &BinTable, area: &[u8]) -> bool
     ensures { result ≡ fits layout.now area.now }
 {
-    layout::layout_ok_of(layout) && layout.naxis1 * layout.naxis2 + layout.pcount <= area.len() as u64
+    layout::layout_ok_of(layout)
+        && layout.naxis1 * layout.naxis2 + layout.pcount <= area.len() as u64
 }
 
 // The choice is one or more of the columns. In one expression with `||` the cell read takes 3 % more instructions.
