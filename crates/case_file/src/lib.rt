@@ -34,12 +34,12 @@ pub fn split_block(bytes: &[u8]) -> Option<(&[u8], &[u8])>
     rest.split_at_checked(len as usize)
 }
 
-// Standard output in pieces: each text that it is given is a write of its own, as is each word and each number of a
-// format. A write that fails is passed over, and the next one is tried all the same.
-#[derive(Clone, Copy)]
-pub struct Output<'a>(&'a HostRuntime);
+// What prints, as a writer in pieces: each text that it is given is a write of its own, as is each word and each number
+// of a format. A write that fails is passed over, and the next one is tried all the same.
+#[derive(Drop)]
+pub struct Output<'a, P>(pub &'a P);
 
-impl fmt::Write for Output<'_> {
+impl<P: Print> fmt::Write for Output<'_, P> {
     fn write_str(&mut self, text: &str) -> fmt::Result {
         let _ = self.0.write_all(text.as_bytes());
         Ok(())
@@ -64,10 +64,10 @@ impl fmt::Display for Signed {
 }
 
 // Prints what the checks come to: the refusal, or the line where there is none, which is one piece.
-pub fn print_check(out: &mut Output, refusal: Option<Refusal>, passed: &str) {
+pub fn print_check(rt: &impl Print, refusal: Option<Refusal>, passed: &str) {
     let _ = match refusal {
-        None => write!(out, "{passed}"),
-        Some(refusal) => writeln!(out, "{refusal}"),
+        None => write!(Output(rt), "{passed}"),
+        Some(refusal) => writeln!(Output(rt), "{refusal}"),
     };
 }
 
@@ -78,7 +78,7 @@ pub trait Case<'a>: Sized {
         ensures shorter { IfSome result (λ p. length p.1.now < length bytes.now) };
 
     // Prints it under its number.
-    fn print(self, out: &mut Output, number: usize);
+    fn print(self, rt: &HostRuntime, number: usize);
 }
 
 // The cases of a file, one after the other. A last one that is cut short comes as `None`, and nothing after it.
@@ -122,12 +122,11 @@ impl<'a, C: Case<'a>> Iterator for Cases<'a, C> {
 // Prints each case of a file, by its number from 0, and `cut` after them where the last one is cut short. The file's
 // bytes outlive its cases, so they are the caller's.
 pub fn print_cases<'a, C: Case<'a>>(rt: &HostRuntime, file: &'a [u8]) {
-    let mut out = Output(rt);
     for (number, case) in Cases::<C>::new(file).enumerate() {
         match case {
-            Some(case) => case.print(&mut out, number),
+            Some(case) => case.print(rt, number),
             None => {
-                let _ = writeln!(out, "cut");
+                let _ = writeln!(Output(rt), "cut");
             }
         }
     }

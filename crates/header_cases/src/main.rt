@@ -26,16 +26,16 @@ impl fmt::Display for Shown {
 }
 
 // The line of a slot that has a record.
-fn print_slot(out: &mut Output, header: &[u8], slot: usize, entry: Entry) {
+fn print_slot(rt: &impl Print, header: &[u8], slot: usize, entry: Entry) {
     let Some(record) = entry.first else {
         return;
     };
     let value = Shown(card::parse_value(header, record as usize));
-    let _ = write!(out, "slot {slot} record {record}{value}");
+    let _ = write!(Output(rt), "slot {slot} record {record}{value}");
     if let Some(again) = entry.second {
-        let _ = write!(out, " again {again}");
+        let _ = write!(Output(rt), " again {again}");
     }
-    let _ = writeln!(out);
+    let _ = writeln!(Output(rt));
 }
 
 #[derive(Clone, Copy)]
@@ -47,19 +47,19 @@ impl<'a> Case<'a> for Header<'a> {
         Some((Header(header), rest))
     }
 
-    fn print(self, out: &mut Output, number: usize) {
+    fn print(self, rt: &HostRuntime, number: usize) {
         let Header(header) = self;
         // The first line ends in the piece that the second begins with.
         let _ = writeln!(
-            out,
+            Output(rt),
             "case {number} length {}\nheader {}",
             header.len(),
             header::header_len(header)
         );
         let parsed = header::parse(header);
-        case_file::print_check(out, parsed.check.err(), "passed\n");
+        case_file::print_check(rt, parsed.check.err(), "passed\n");
         for (slot, entry) in parsed.index.iter().enumerate() {
-            print_slot(out, header, slot, *entry);
+            print_slot(rt, header, slot, *entry);
         }
     }
 }

@@ -60,19 +60,23 @@ impl<'a> Iterator for Names<'a> {
     }
 }
 
-fn print_sizes(out: &mut Output, layout: &BinTable) {
+fn print_sizes(rt: &impl Print, layout: &BinTable) {
     let _ = writeln!(
-        out,
+        Output(rt),
         "table {} columns {} rows {} bytes {} pcount {} theap",
-        layout.tfields, layout.naxis2, layout.naxis1, layout.pcount, layout.theap
+        layout.tfields,
+        layout.naxis2,
+        layout.naxis1,
+        layout.pcount,
+        layout.theap
     );
 }
 
-fn print_column(out: &mut Output, number: usize, column: &Column) {
+fn print_column(rt: &impl Print, number: usize, column: &Column) {
     let form = Form(column.form);
     let bytes = tform::num_bytes_field(column.form, column.count);
     let _ = write!(
-        out,
+        Output(rt),
         "column {number} {form} {} at {} bytes {bytes}{}",
         column.count,
         column.start,
@@ -80,9 +84,9 @@ fn print_column(out: &mut Output, number: usize, column: &Column) {
     );
     // The scaling of a column with neither keyword is seen in what it reads.
     if column.scaling_given {
-        let _ = write!(out, "{}", Factors(column.scaling));
+        let _ = write!(Output(rt), "{}", Factors(column.scaling));
     }
-    let _ = writeln!(out, "{}", Missing(column.null));
+    let _ = writeln!(Output(rt), "{}", Missing(column.null));
 }
 
 #[derive(Clone, Copy)]
@@ -97,21 +101,21 @@ struct Table<'a> {
 
 impl Table<'_> {
     // The name of each column and of one more, from the whole header and from its front.
-    fn print_names(&self, out: &mut Output, layout: BinTable) {
+    fn print_names(&self, rt: &impl Print, layout: BinTable) {
         for i in 0..=layout.tfields.min(TFIELDS_LIMIT) {
             let full = Bytes(layout::column_name(self.header, layout, i));
-            let _ = writeln!(out, "name {i} full{full}");
+            let _ = writeln!(Output(rt), "name {i} full{full}");
             let cut = Bytes(layout::column_name(self.front, layout, i));
-            let _ = writeln!(out, "name {i} cut{cut}");
+            let _ = writeln!(Output(rt), "name {i} cut{cut}");
         }
     }
 
-    fn print_finds(&self, out: &mut Output, layout: BinTable) {
+    fn print_finds(&self, rt: &impl Print, layout: BinTable) {
         for (i, name) in Names(self.names).take(usize::from(self.count)).enumerate() {
             let full = Place(layout::find_field_by_ttype(self.header, layout, name));
-            let _ = writeln!(out, "find {i} full{full}");
+            let _ = writeln!(Output(rt), "find {i} full{full}");
             let cut = Place(layout::find_field_by_ttype(self.front, layout, name));
-            let _ = writeln!(out, "find {i} cut{cut}");
+            let _ = writeln!(Output(rt), "find {i} cut{cut}");
         }
     }
 }
@@ -132,18 +136,18 @@ impl<'a> Case<'a> for Table<'a> {
         Some((table, after_names(names, *count)))
     }
 
-    fn print(self, out: &mut Output, number: usize) {
-        let _ = writeln!(out, "case {number}");
+    fn print(self, rt: &HostRuntime, number: usize) {
+        let _ = writeln!(Output(rt), "case {number}");
         let parsed = bintable::parse(self.header, self.area);
         // Of a table that is refused the empty layout is shown.
         let layout = parsed.unwrap_or(EMPTY_LAYOUT);
-        case_file::print_check(out, parsed.err(), "accepted\n");
-        print_sizes(out, &layout);
+        case_file::print_check(rt, parsed.err(), "accepted\n");
+        print_sizes(rt, &layout);
         for (i, column) in layout.columns.iter().take(layout.tfields).enumerate() {
-            print_column(out, i, column);
+            print_column(rt, i, column);
         }
-        self.print_names(out, layout);
-        self.print_finds(out, layout);
+        self.print_names(rt, layout);
+        self.print_finds(rt, layout);
     }
 }
 

@@ -32,16 +32,16 @@ use std::{fs, io};
 use walk::TableData;
 
 // The cursor as a step puts it.
-fn print_put(out: &mut Output, cursor: TableData) -> TableData {
-    let _ = write!(out, "put\n{}", Line(cursor));
+fn print_put(rt: &impl Print, cursor: TableData) -> TableData {
+    let _ = write!(Output(rt), "put\n{}", Line(cursor));
     cursor
 }
 
 // The cursor after a step, whose answers are printed.
-fn print_step(out: &mut Output, layout: BinTable, cursor: TableData, step: Step) -> TableData {
+fn print_step(rt: &impl Print, layout: BinTable, cursor: TableData, step: Step) -> TableData {
     match step {
         Step::Put { row, passed, count } => print_put(
-            out,
+            rt,
             TableData {
                 row,
                 passed,
@@ -49,7 +49,7 @@ fn print_step(out: &mut Output, layout: BinTable, cursor: TableData, step: Step)
                 ..cursor
             },
         ),
-        Step::Choose(choice) => print_put(out, TableData { choice, ..cursor }),
+        Step::Choose(choice) => print_put(rt, TableData { choice, ..cursor }),
         Step::Call {
             call,
             how,
@@ -65,7 +65,7 @@ fn print_step(out: &mut Output, layout: BinTable, cursor: TableData, step: Step)
             };
             let mut current = cursor;
             for _ in 0..times {
-                current = reader.print_call(out, current, call);
+                current = reader.print_call(rt, current, call);
             }
             current
         }
@@ -78,27 +78,27 @@ impl<'a> Case<'a> for TableCase<'a> {
         Some((TableCase::new(body), rest))
     }
 
-    fn print(self, out: &mut Output, number: usize) {
-        let _ = writeln!(out, "case {number}");
+    fn print(self, rt: &HostRuntime, number: usize) {
+        let _ = writeln!(Output(rt), "case {number}");
         let mut buffer = [b' '; HEADER_LIMIT];
         let layout = match bintable::parse(self.header(&mut buffer), self.entry) {
             Ok(layout) => layout,
             Err(refusal) => {
-                let _ = writeln!(out, "{refusal}");
+                let _ = writeln!(Output(rt), "{refusal}");
                 return;
             }
         };
-        let _ = writeln!(out, "accepted");
+        let _ = writeln!(Output(rt), "accepted");
         let mut cursor = match self.open(layout) {
             Ok(cursor) => cursor,
             Err(refusal) => {
-                let _ = writeln!(out, "{refusal}");
+                let _ = writeln!(Output(rt), "{refusal}");
                 return;
             }
         };
-        let _ = write!(out, "opened\n{}", Line(cursor));
+        let _ = write!(Output(rt), "opened\n{}", Line(cursor));
         for step in self.steps() {
-            cursor = print_step(out, layout, cursor, Step::new(step, self.areas));
+            cursor = print_step(rt, layout, cursor, Step::new(step, self.areas));
         }
     }
 }

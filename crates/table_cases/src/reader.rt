@@ -31,14 +31,14 @@ fn is_shown(k: usize, n: usize, cells: usize) -> bool {
 }
 
 // How many cells a row read stored; what it returned is printed.
-fn print_read(out: &mut Output, stepped: Stepped<Option<u64>>) -> usize {
-    let _ = write!(out, "{}", Line(stepped.answer));
-    let _ = write!(out, "{}", Line(stepped.cursor));
+fn print_read(rt: &impl Print, stepped: Stepped<Option<u64>>) -> usize {
+    let _ = write!(Output(rt), "{}", Line(stepped.answer));
+    let _ = write!(Output(rt), "{}", Line(stepped.cursor));
     cells_read(stepped.answer)
 }
 
-fn print_listed(out: &mut Output, k: usize, cell: Cell) {
-    let _ = write!(out, "list {k} {}", Line(cell));
+fn print_listed(rt: &impl Print, k: usize, cell: Cell) {
+    let _ = write!(Output(rt), "list {k} {}", Line(cell));
 }
 
 // What a step over a lent cursor answers, beside the cursor after it.
@@ -91,21 +91,21 @@ impl Reader<'_> {
     // A row read into a list that is lent for it. It and the next are not inlined, so that the stack never holds their
     // two lists at once.
     #[inline(never)]
-    fn print_lent_row(&self, out: &mut Output, cursor: TableData, n: usize) -> TableData {
+    fn print_lent_row(&self, rt: &impl Print, cursor: TableData, n: usize) -> TableData {
         let mut list = [other(); LIST_LIMIT];
         let lent = &mut list[..n.min(LIST_LIMIT)];
         let stepped = by_lent(
             cursor,
             |own| row::next_row(own, self.layout, self.area, self.how, lent),
         );
-        let cells = print_read(out, stepped);
+        let cells = print_read(rt, stepped);
         for (k, cell) in list
             .iter()
             .take(n)
             .enumerate()
             .filter(|(k, _)| is_shown(*k, n, cells))
         {
-            print_listed(out, k, *cell);
+            print_listed(rt, k, *cell);
         }
         stepped.cursor
     }
@@ -113,44 +113,44 @@ impl Reader<'_> {
     // By value the list is that of `row_cell`, which gives one cell of it: the read is done anew for each other that is
     // shown.
     #[inline(never)]
-    fn print_own_row(&self, out: &mut Output, cursor: TableData, n: usize) -> TableData {
+    fn print_own_row(&self, rt: &impl Print, cursor: TableData, n: usize) -> TableData {
         let read = |k: usize| {
             row::owners::row_cell(self.layout, self.area, cursor, self.how, other(), n, k)
         };
         let first = read(0);
-        let cells = print_read(out, first.stepped);
+        let cells = print_read(rt, first.stepped);
         for k in (0..n).filter(|k| is_shown(*k, n, cells)) {
             let listed = if k == 0 { first } else { read(k) };
-            print_listed(out, k, listed.cell);
+            print_listed(rt, k, listed.cell);
         }
         first.stepped.cursor
     }
 
     // A row read. Cells of the list past those that it stored must be as they were, so they are printed too.
-    fn print_row(&self, out: &mut Output, cursor: TableData, n: usize) -> TableData {
+    fn print_row(&self, rt: &impl Print, cursor: TableData, n: usize) -> TableData {
         if self.over_lent {
-            self.print_lent_row(out, cursor, n)
+            self.print_lent_row(rt, cursor, n)
         } else {
-            self.print_own_row(out, cursor, n)
+            self.print_own_row(rt, cursor, n)
         }
     }
 
     // The cursor after a call, whose answer is printed.
-    pub fn print_call(&self, out: &mut Output, cursor: TableData, call: Call) -> TableData {
+    pub fn print_call(&self, rt: &impl Print, cursor: TableData, call: Call) -> TableData {
         let after = match call {
             Call::Cell => {
                 let stepped = self.next(cursor);
-                let _ = write!(out, "{}", Line(stepped.answer));
+                let _ = write!(Output(rt), "{}", Line(stepped.answer));
                 stepped.cursor
             }
             Call::Seek { row } => {
                 let stepped = self.seek_to_row(cursor, row);
-                let _ = write!(out, "{}", Line(stepped.answer));
+                let _ = write!(Output(rt), "{}", Line(stepped.answer));
                 stepped.cursor
             }
-            Call::Row { len } => return self.print_row(out, cursor, len),
+            Call::Row { len } => return self.print_row(rt, cursor, len),
         };
-        let _ = write!(out, "{}", Line(after));
+        let _ = write!(Output(rt), "{}", Line(after));
         after
     }
 }
