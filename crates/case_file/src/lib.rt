@@ -1,8 +1,8 @@
 // What the programs that read a file of cases share: the numbers and blocks of such a file, the loop over its cases,
-// and where they print.
+// and what they print by.
 #![tactic(auto)]
 
-ghost use Rattle.std.specs.Prelude.{◌≡◌, ◌+◌, ◌<◌, length, drop, IfSome, MatchOption};
+ghost use Rattle.std.specs.Prelude.{◌≡◌, ◌+◌, ◌<◌, length, drop, IfSome, IsOk, MatchOption};
 ghost use Rattle.std.specs.Iterator.{at_most};
 ghost use Rattle.std.specs.declared.option.Option.TheVariants.{Some};
 ghost use Rattle.std.specs.List.{IsSplitAt};
@@ -34,13 +34,15 @@ pub fn split_block(bytes: &[u8]) -> Option<(&[u8], &[u8])>
     rest.split_at_checked(len as usize)
 }
 
-// What prints, as a writer in pieces: each text that it is given is a write of its own, as is each word and each number
-// of a format. A write that fails is passed over, and the next one is tried all the same.
+// What prints, as a writer in pieces: each text that it is given is a write of its own, so of a format each stretch of
+// fixed text and each value. A write that fails is passed over, and the next one is tried all the same.
 #[derive(Drop)]
 pub struct Output<'a, P>(pub &'a P);
 
 impl<P: Print> fmt::Write for Output<'_, P> {
-    fn write_str(&mut self, text: &str) -> fmt::Result {
+    fn write_str(&mut self, text: &str) -> fmt::Result
+        ensures { IsOk result }
+    {
         let _ = self.0.write_all(text.as_bytes());
         Ok(())
     }
@@ -63,7 +65,8 @@ impl fmt::Display for Signed {
     }
 }
 
-// Prints what the checks come to: the refusal, or the line where there is none, which is one piece.
+// Prints what the checks come to: the line of the refusal, or `passed` where there is none. That is printed as it is,
+// with the line feed that it ends in, so that both are one piece.
 pub fn print_check(rt: &impl Print, refusal: Option<Refusal>, passed: &str) {
     let _ = match refusal {
         None => write!(Output(rt), "{passed}"),

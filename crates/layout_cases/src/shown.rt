@@ -72,7 +72,7 @@ impl fmt::Display for Place {
     }
 }
 
-// Each byte as a number.
+// Each byte as a number, after a space.
 #[derive(Clone, Copy)]
 pub struct Bytes<'a>(pub &'a [u8]);
 

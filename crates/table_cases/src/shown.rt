@@ -15,6 +15,7 @@ impl fmt::Display for Shown<Logical> {
             Logical::Yes => write!(f, "1"),
             Logical::No => write!(f, "0"),
             Logical::Unset => write!(f, "2"),
+            // The 3 goes in as a value, so that the space after it is a piece of its own.
             Logical::Odd(byte) => write!(f, "{} {byte}", 3u8),
         }
     }
