@@ -10,9 +10,9 @@ ghost use Rattle.std.specs.Fmt.{signed_decimal};
 ghost use Rattle.case_file.specs.Number.{front_number};
 
 use refusal::Refusal;
-use std::fmt;
 use std::fmt::Write;
 use std::marker::PhantomData;
+use std::{fmt, io};
 
 // The number that the first four bytes say, high byte first, and what stands after it; none where there are fewer.
 pub fn split_number(bytes: &[u8]) -> Option<(u32, &[u8])>
@@ -65,9 +65,18 @@ impl fmt::Display for Signed {
     }
 }
 
-// Prints what the checks come to: the line of the refusal, or `passed` where there is none. That is printed as it is,
-// with the line feed that it ends in, so that both are one piece.
-pub fn print_check(rt: &impl Print, refusal: Option<Refusal>, passed: &str) {
+// Prints what the checks come to: the refusal, or the word where there is none. The answer is the error of a write that
+// fails, after which nothing more of the line is written.
+pub fn print_check(rt: &impl Print, refusal: Option<Refusal>, passed: &str) -> io::Result<()> {
+    match refusal {
+        None => println!(rt; "{passed}"),
+        Some(refusal) => println!(rt; "{refusal}"),
+    }
+}
+
+// The same in pieces: a write that fails is passed over. `passed` is printed as it is, with the line feed that it ends
+// in, so that both are one piece.
+pub fn print_check_in_pieces(rt: &impl Print, refusal: Option<Refusal>, passed: &str) {
     let _ = match refusal {
         None => write!(Output(rt), "{passed}"),
         Some(refusal) => writeln!(Output(rt), "{refusal}"),
@@ -80,8 +89,33 @@ pub trait Case<'a>: Sized {
     fn split(bytes: &'a [u8]) -> Option<(Self, &'a [u8])>
         ensures shorter { IfSome result (λ p. length p.1.now < length bytes.now) };
 
+    // Prints it under its number. An error ends the run over the cases.
+    fn print(self, rt: &HostRuntime, number: usize) -> io::Result<()>;
+}
+
+// A case of a file that is printed in pieces.
+pub trait CaseInPieces<'a>: Sized {
+    // The case at the front of the bytes and what stands after it; none where it is cut short.
+    fn split(bytes: &'a [u8]) -> Option<(Self, &'a [u8])>
+        ensures shorter { IfSome result (λ p. length p.1.now < length bytes.now) };
+
     // Prints it under its number.
     fn print(self, rt: &HostRuntime, number: usize);
+}
+
+// A case whose error, if its printing gives one, is passed over.
+struct PassedOver<C>(C);
+
+impl<'a, C: Case<'a>> CaseInPieces<'a> for PassedOver<C> {
+    fn split(bytes: &'a [u8]) -> Option<(Self, &'a [u8])> {
+        let (case, rest) = C::split(bytes)?;
+        Some((PassedOver(case), rest))
+    }
+
+    fn print(self, rt: &HostRuntime, number: usize) {
+        let PassedOver(case) = self;
+        let _ = case.print(rt, number);
+    }
 }
 
 // The cases of a file, one after the other. A last one that is cut short comes as `None`, and nothing after it.
@@ -91,7 +125,7 @@ struct Cases<'a, C> {
     kind: PhantomData<C>,
 }
 
-impl<'a, C: Case<'a>> Cases<'a, C> {
+impl<'a, C: CaseInPieces<'a>> Cases<'a, C> {
     fn new(file: &'a [u8]) -> Self {
         Cases {
             rest: file,
@@ -100,7 +134,7 @@ impl<'a, C: Case<'a>> Cases<'a, C> {
     }
 }
 
-impl<'a, C: Case<'a>> Iterator for Cases<'a, C> {
+impl<'a, C: CaseInPieces<'a>> Iterator for Cases<'a, C> {
     type Item = Option<C>;
 
     ghost remaining = { λ s. at_most (length s.rest.now) };
@@ -122,9 +156,20 @@ impl<'a, C: Case<'a>> Iterator for Cases<'a, C> {
     }
 }
 
-// Prints each case of a file, by its number from 0, and `cut` after them where the last one is cut short. The file's
-// bytes outlive its cases, so they are the caller's.
-pub fn print_cases<'a, C: Case<'a>>(rt: &HostRuntime, file: &'a [u8]) {
+// Prints each case of a file, by its number from 0, and `cut` after them where the last one is cut short. The first error
+// of a case or of a write ends it, and is the answer. The file's bytes outlive its cases, so they are the caller's.
+pub fn print_cases<'a, C: Case<'a>>(rt: &HostRuntime, file: &'a [u8]) -> io::Result<()> {
+    for (number, case) in Cases::<PassedOver<C>>::new(file).enumerate() {
+        match case {
+            Some(PassedOver(case)) => case.print(rt, number)?,
+            None => println!(rt; "cut")?,
+        }
+    }
+    Ok(())
+}
+
+// The same of cases that are printed in pieces: a write that fails is passed over.
+pub fn print_cases_in_pieces<'a, C: CaseInPieces<'a>>(rt: &HostRuntime, file: &'a [u8]) {
     for (number, case) in Cases::<C>::new(file).enumerate() {
         match case {
             Some(case) => case.print(rt, number),
@@ -134,3 +179,6 @@ pub fn print_cases<'a, C: Case<'a>>(rt: &HostRuntime, file: &'a [u8]) {
         }
     }
 }
+
+#[cfg(test)]
+mod tests;

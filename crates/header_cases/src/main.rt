@@ -6,7 +6,7 @@
 ghost use Rattle.std.specs.Prelude.{◌<◌, length, IfSome};
 
 use card::Value;
-use case_file::{Case, Output, Signed};
+use case_file::{CaseInPieces, Output, Signed};
 use header::Entry;
 use std::fmt::Write;
 use std::{fmt, fs, io};
@@ -41,7 +41,7 @@ fn print_slot(rt: &impl Print, header: &[u8], slot: usize, entry: Entry) {
 #[derive(Clone, Copy)]
 struct Header<'a>(&'a [u8]);
 
-impl<'a> Case<'a> for Header<'a> {
+impl<'a> CaseInPieces<'a> for Header<'a> {
     fn split(bytes: &'a [u8]) -> Option<(Self, &'a [u8])> {
         let (header, rest) = case_file::split_block(bytes)?;
         Some((Header(header), rest))
@@ -57,7 +57,7 @@ impl<'a> Case<'a> for Header<'a> {
             header::header_len(header)
         );
         let parsed = header::parse(header);
-        case_file::print_check(rt, parsed.check.err(), "passed\n");
+        case_file::print_check_in_pieces(rt, parsed.check.err(), "passed\n");
         for (slot, entry) in parsed.index.iter().enumerate() {
             print_slot(rt, header, slot, *entry);
         }
@@ -66,6 +66,6 @@ impl<'a> Case<'a> for Header<'a> {
 
 fn main(rt: HostRuntime) -> io::Result<()> {
     let file = fs::read(&rt, "cases.bin")?;
-    case_file::print_cases::<Header>(&rt, file.as_slice());
+    case_file::print_cases_in_pieces::<Header>(&rt, file.as_slice());
     Ok(())
 }

@@ -9,7 +9,7 @@ mod shown;
 ghost use Rattle.std.specs.Prelude.{◌≤◌, ◌<◌, length, IfSome};
 ghost use Rattle.std.specs.Iterator.{at_most};
 
-use case_file::{Case, Output};
+use case_file::{CaseInPieces, Output};
 use layout::{BinTable, Column, EMPTY_LAYOUT, TFIELDS_LIMIT};
 use shown::{Bytes, Factors, Form, Missing, Place, Stretch};
 use std::fmt::Write;
@@ -120,7 +120,7 @@ impl Table<'_> {
     }
 }
 
-impl<'a> Case<'a> for Table<'a> {
+impl<'a> CaseInPieces<'a> for Table<'a> {
     fn split(bytes: &'a [u8]) -> Option<(Self, &'a [u8])> {
         let (header, rest) = case_file::split_block(bytes)?;
         let (area_len, rest) = case_file::split_number(rest)?;
@@ -141,7 +141,7 @@ impl<'a> Case<'a> for Table<'a> {
         let parsed = bintable::parse(self.header, self.area);
         // Of a table that is refused the empty layout is shown.
         let layout = parsed.unwrap_or(EMPTY_LAYOUT);
-        case_file::print_check(rt, parsed.err(), "accepted\n");
+        case_file::print_check_in_pieces(rt, parsed.err(), "accepted\n");
         print_sizes(rt, &layout);
         for (i, column) in layout.columns.iter().take(layout.tfields).enumerate() {
             print_column(rt, i, column);
@@ -153,6 +153,6 @@ impl<'a> Case<'a> for Table<'a> {
 
 fn main(rt: HostRuntime) -> io::Result<()> {
     let file = fs::read(&rt, "cases.bin")?;
-    case_file::print_cases::<Table>(&rt, file.as_slice());
+    case_file::print_cases_in_pieces::<Table>(&rt, file.as_slice());
     Ok(())
 }

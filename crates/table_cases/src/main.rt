@@ -22,7 +22,7 @@ mod shown;
 
 ghost use Rattle.std.specs.Prelude.{◌<◌, length, IfSome};
 
-use case_file::{Case, Output};
+use case_file::{CaseInPieces, Output};
 use file::{HEADER_LIMIT, Step, TableCase};
 use layout::BinTable;
 use reader::Reader;
@@ -72,7 +72,7 @@ fn print_step(rt: &impl Print, layout: BinTable, cursor: TableData, step: Step) 
     }
 }
 
-impl<'a> Case<'a> for TableCase<'a> {
+impl<'a> CaseInPieces<'a> for TableCase<'a> {
     fn split(bytes: &'a [u8]) -> Option<(Self, &'a [u8])> {
         let (body, rest) = case_file::split_block(bytes)?;
         Some((TableCase::new(body), rest))
@@ -105,6 +105,6 @@ impl<'a> Case<'a> for TableCase<'a> {
 
 fn main(rt: HostRuntime) -> io::Result<()> {
     let file = fs::read(&rt, "cases.bin")?;
-    case_file::print_cases::<TableCase>(&rt, file.as_slice());
+    case_file::print_cases_in_pieces::<TableCase>(&rt, file.as_slice());
     Ok(())
 }
