@@ -65,8 +65,8 @@ impl fmt::Display for Signed {
     }
 }
 
-// Prints what the checks come to: the refusal, or the word where there is none. The answer is the error of a write that
-// fails, after which nothing more of the line is written.
+// Prints what the checks come to: the refusal, or the word where there is none. The answer is the error, where a write
+// fails.
 pub fn print_check(rt: &impl Print, refusal: Option<Refusal>, passed: &str) -> io::Result<()> {
     match refusal {
         None => println!(rt; "{passed}"),
@@ -103,17 +103,18 @@ pub trait CaseInPieces<'a>: Sized {
     fn print(self, rt: &HostRuntime, number: usize);
 }
 
-// A case whose error, if its printing gives one, is passed over.
-struct PassedOver<C>(C);
+// A case of `Case` as the loop over the bytes takes it. `print_cases` takes it out and prints it, so its own `print` is
+// called by nothing.
+struct InLoop<C>(C);
 
-impl<'a, C: Case<'a>> CaseInPieces<'a> for PassedOver<C> {
+impl<'a, C: Case<'a>> CaseInPieces<'a> for InLoop<C> {
     fn split(bytes: &'a [u8]) -> Option<(Self, &'a [u8])> {
         let (case, rest) = C::split(bytes)?;
-        Some((PassedOver(case), rest))
+        Some((InLoop(case), rest))
     }
 
     fn print(self, rt: &HostRuntime, number: usize) {
-        let PassedOver(case) = self;
+        let InLoop(case) = self;
         let _ = case.print(rt, number);
     }
 }
@@ -156,12 +157,12 @@ impl<'a, C: CaseInPieces<'a>> Iterator for Cases<'a, C> {
     }
 }
 
-// Prints each case of a file, by its number from 0, and `cut` after them where the last one is cut short. The first error
-// of a case or of a write ends it, and is the answer. The file's bytes outlive its cases, so they are the caller's.
+// Prints each case of a file, by its number from 0, and `cut` after them where the last one is cut short. The first
+// error ends it and is the answer. The file's bytes outlive its cases, so they are the caller's.
 pub fn print_cases<'a, C: Case<'a>>(rt: &HostRuntime, file: &'a [u8]) -> io::Result<()> {
-    for (number, case) in Cases::<PassedOver<C>>::new(file).enumerate() {
+    for (number, case) in Cases::<InLoop<C>>::new(file).enumerate() {
         match case {
-            Some(PassedOver(case)) => case.print(rt, number)?,
+            Some(InLoop(case)) => case.print(rt, number)?,
             None => println!(rt; "cut")?,
         }
     }

@@ -54,37 +54,55 @@ fn checks(rt: HostRuntime) -> Result<(), Fail> {
     Ok(())
 }
 
-// A case of two bytes. The second says how many cases come before it, and where that is wrong, printing it fails.
+// A case of two bytes. The first says what its printing gives, and the second how many cases come before it; where that
+// is wrong, the printing fails too.
 #[derive(Clone, Copy)]
-struct Numbered(u8);
+struct Numbered {
+    gives: u8,
+    before: u8,
+}
 
 impl<'a> Case<'a> for Numbered {
     fn split(bytes: &'a [u8]) -> Option<(Self, &'a [u8])> {
         let (pair, rest) = bytes.split_first_chunk::<2>()?;
-        Some((Numbered(pair[1]), rest))
+        let case = Numbered {
+            gives: pair[0],
+            before: pair[1],
+        };
+        Some((case, rest))
     }
 
     fn print(self, rt: &HostRuntime, number: usize) -> io::Result<()> {
-        if number != self.0 as usize {
-            return Err(io::Error::from(ErrorKind::InvalidData));
+        if number != self.before as usize {
+            return Err(io::Error::from(ErrorKind::InvalidInput));
         }
-        println!(rt; "case {number}")
+        match self.gives {
+            0 => println!(rt; "case {number}"),
+            1 => Err(io::Error::from(ErrorKind::InvalidData)),
+            _ => Err(io::Error::from(ErrorKind::BrokenPipe)),
+        }
     }
 }
 
-// Files whose cases can be printed, two of them cut short, and files of which a case cannot.
-const PRINTED: [&[u8]; 4] = [&[], &[7], &[7, 0], &[7, 0, 7, 1, 7]];
+// Files whose cases can be printed, two of them cut short.
+const PRINTED: [&[u8]; 4] = [&[], &[0], &[0, 0], &[0, 0, 0, 1, 0]];
 
-const FAILED: [&[u8]; 3] = [&[7, 1], &[7, 0, 7, 0, 7, 2], &[7, 0, 7, 255]];
+// Files of which a case cannot, and the first error.
+const FAILED: [(&[u8], ErrorKind); 4] = [
+    (&[0, 1], ErrorKind::InvalidInput),
+    (&[1, 0], ErrorKind::InvalidData),
+    (&[0, 0, 1, 1, 2, 2, 0, 3], ErrorKind::InvalidData),
+    (&[0, 0, 2, 1, 1, 2, 0], ErrorKind::BrokenPipe),
+];
 
 #[test]
 fn cases(rt: HostRuntime) -> Result<(), Fail> {
     for file in PRINTED {
         print_cases::<Numbered>(&rt, file)?;
     }
-    for file in FAILED {
-        let printed = print_cases::<Numbered>(&rt, file);
-        assert!(rt; printed.is_err());
+    for (file, kind) in FAILED {
+        let error = print_cases::<Numbered>(&rt, file).err().ok_or("no error")?;
+        assert_eq!(rt; error.kind(), kind);
     }
     Ok(())
 }
