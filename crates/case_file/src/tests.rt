@@ -1,4 +1,4 @@
-// The calls that give a write's error, each where nothing fails and where a write does.
+// The calls that give an error: `print_check` that of a write, `print_cases` that of the first case that gives one.
 use super::*;
 use std::fmt::{Display, Write};
 use std::io::ErrorKind;
